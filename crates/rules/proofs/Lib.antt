@@ -1,0 +1,23 @@
+-- Theorems about the rules, a file to an idea, each after what it stands on.
+pub mod Tests
+pub mod Fields
+pub mod Parts
+pub mod PinParts
+pub mod Writable
+pub mod WriteRead
+pub mod ReadWrite
+pub mod Bounds
+pub mod Steady
+pub mod Biased
+pub mod Dues
+pub mod Counted
+pub mod Rounds
+pub mod Decided
+pub mod Exactly
+pub mod Refreshed
+pub mod Groups
+pub mod Idle
+pub mod Closed
+pub mod Computed
+pub mod Starred
+pub mod Rounding

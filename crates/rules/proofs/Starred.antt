@@ -1,0 +1,115 @@
+-- The starred cases and the further ones, by computation.
+use Prim.Native.Nat.{ℕ, zero, suc, _<_}
+use mathlib.Core.Path.{_≡_, refl, sym, _∙_}
+use mathlib.Core.List.{List, [], _∷_}
+use native.Mathlib.Omega.{arith}
+use lib.Dec.{T, ltb, ltb→lt}
+use Rattle.rules.specs.Lists.{Every, all, isOneOf, when}
+use Rattle.rules.specs.Bits.{bits, on, bit}
+use Rattle.rules.specs.Units.{roundedUp, n, interval, rowCycle, delaysOf}
+use Rattle.rules.specs.Commands.{code, bare, carries, kindOf, bankOf, apOf, is, banks}
+use Rattle.rules.specs.Pins.{
+  CAr,
+  CAf,
+  byLevels,
+  kindAt,
+  run,
+  maRuns,
+  opRuns,
+  bankRuns,
+  rowRuns,
+  columnRuns,
+  gathered,
+  scattered,
+  good,
+  listedMA,
+  ofKind,
+  decode,
+  levels,
+  enabled,
+  encode,
+}
+use Rattle.rules.specs.Registers.{row, latencies, atCode, mr2Good, rlOf, wlOf, mr1Good, mayWrite}
+use Rattle.rules.specs.Past.{
+  read,
+  commandOf,
+  taken,
+  register,
+  mr2At,
+  counterAfter,
+  counterAt,
+  bankAt,
+  opens,
+  precharges,
+  closes,
+  openAfter,
+  isOpen,
+  isCounted,
+  stampsWhere,
+  countedStamps,
+  commandCount,
+}
+use Rattle.rules.specs.States.{allClosed, goes, stateGood}
+use Rattle.rules.specs.Folds.{orElse, firstOf, latest, back, permitted, permittedBy, bound, firstBroken}
+use Rattle.rules.specs.Delays.{
+  latestOf,
+  laggingOf,
+  fourthOf,
+  latestIf,
+  to,
+  means,
+  found,
+  find,
+  idleUse,
+  precharged,
+  without,
+  from,
+  lagging,
+  rule,
+  delayRules,
+}
+use Rattle.rules.specs.Account.{lpddr3, isDue, lastCounted}
+use Rattle.rules.specs.Checks.{refusal, unless, named, isWrong, isReserved, valueGood, viewOf, checks, above, notBelow}
+use Rattle.rules.specs.Bench.{timing, benchAt, bench, Case, trace, written, Shown, _at_, early, unpaid, eightRefreshes, fourActs, starred, further}
+use Rattle.rules.proofs.Tests.{_&_}
+use Rattle.rules.proofs.Biased.{due, owing}
+use Rattle.rules.proofs.Idle.{owedAt, next19, next20, firstNext}
+use Rattle.rules.proofs.Closed.{owedClosed, firstClosed}
+use Rattle.rules.proofs.Computed.{entryComputed, endComputed, computedFrom, computed}
+
+-- names every definition that a case computes with
+unfoldable pub opened : Unit {0}
+unfolding Every all isOneOf when bits on bit roundedUp n interval rowCycle delaysOf code bare carries kindOf bankOf apOf is banks CAr CAf byLevels kindAt run maRuns opRuns bankRuns rowRuns columnRuns gathered scattered listedMA ofKind decode levels enabled encode row latencies atCode mr2Good rlOf wlOf mr1Good mayWrite read commandOf taken register mr2At counterAfter counterAt bankAt opens precharges closes openAfter isOpen isCounted stampsWhere countedStamps commandCount allClosed goes stateGood orElse firstOf latest back permitted permittedBy bound firstBroken latestOf laggingOf fourthOf latestIf to means found find idleUse precharged without from lagging rule delayRules lpddr3 isDue lastCounted refusal unless named isWrong isReserved valueGood viewOf checks above notBelow timing benchAt bench _at_ early unpaid eightRefreshes fourActs starred further due owing owedAt next19 next20 firstNext owedClosed firstClosed entryComputed endComputed computedFrom
+opened = tt
+
+-- a case whose verdict is computed with the account in closed form
+unfoldable Computes : Case → Type 0
+Computes (trace card es end v) = T (ltb 0 (interval card)) × (computedFrom card [] 0 es end ≡ v)
+Computes (written c p) = (encode c ≡ p) × (decode p ≡ good c)
+
+shown : (c : Case) → Computes c → Shown c
+unfolding Shown Computes
+shown (trace card es end v) e = sym (computed card (ltb→lt 0 (interval card) (e .0)) es end) ∙ e .1
+shown (written c p) e = e
+
+all-shown : (cs : List Case) → Every Computes cs → Every Shown cs
+unfolding Every
+all-shown [] e = tt
+all-shown (c ∷ cs) e = (shown c (e .0), all-shown cs (e .1))
+
+starred-computes : Every Computes starred
+unfolding opened Computes
+starred-computes =
+    (tt, refl) & (tt, refl) & (tt, refl) & (tt, refl) & (tt, refl) & (tt, refl) & (tt, refl) & (tt, refl) & (tt, refl) & (tt, refl) &
+    (tt, refl) & (tt, refl) & (tt, refl) & (tt, refl) & (tt, refl) & (tt, refl) & (tt, refl) & (tt, refl) & (tt, refl) & (tt, refl) &
+    (refl, refl) & tt
+
+further-computes : Every Computes further
+unfolding opened Computes
+further-computes = (tt, refl) & (tt, refl) & (tt, refl) & (tt, refl) & (tt, refl) & tt
+
+pub starred-hold : Every Shown starred
+starred-hold = all-shown starred starred-computes
+
+pub further-hold : Every Shown further
+further-hold = all-shown further further-computes

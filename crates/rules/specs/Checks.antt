@@ -1,0 +1,100 @@
+-- The checks of an entry and of the end, in their order, with what each refusal gives (document 01, "What comes back").
+use Prim.Native.Nat.{ℕ, suc}
+use mathlib.Core.Bool.{Bool, true, false, cond, not}
+use mathlib.Core.List.{List, [], _∷_}
+use mathlib.Core.Option.{Option, none, some}
+use lib.Dec.{leb, ltb}
+use Rattle.rules.specs.Card.{Card}
+use Rattle.rules.specs.Units.{interval, delaysOf}
+use Rattle.rules.specs.Commands.{Command, carries, is, MRW}
+use Rattle.rules.specs.Pins.{Decoded, good, wrongBits, reserved}
+use Rattle.rules.specs.Registers.{mayWrite}
+use Rattle.rules.specs.Past.{Entry, Past, read, commandOf, taken, isOpen, counterAt, countedStamps}
+use Rattle.rules.specs.States.{stateGood}
+use Rattle.rules.specs.Folds.{firstOf, firstBroken}
+use Rattle.rules.specs.Delays.{Lookup, find, delayRules}
+use Rattle.rules.specs.Account.{lpddr3, failingAt, firstFailing}
+
+-- a refusal's number, rule and cycle; rule and cycle are 0 except for 10 and 11
+pub record Refusal : Type 0 where
+  pub number : ℕ
+  pub rule : ℕ
+  pub cycle : ℕ
+
+unfoldable pub refusal : (number rule cycle : ℕ) → Refusal
+refusal k q t = record { number = k; rule = q; cycle = t }
+
+-- this number, unless the test passes
+unfoldable pub unless : Bool → ℕ → Option Refusal
+unless true k = none
+unless false k = some (refusal k 0 0)
+
+-- this number with the rule and the cycle, if there are any
+unfoldable pub named : ℕ → Option (ℕ × ℕ) → Option Refusal
+named k none = none
+named k (some x) = some (refusal k (x .0) (x .1))
+
+unfoldable pub isWrong : Decoded → Bool
+isWrong (good c) = false
+isWrong wrongBits = true
+isWrong reserved = false
+
+unfoldable pub isReserved : Decoded → Bool
+isReserved (good c) = false
+isReserved wrongBits = false
+isReserved reserved = true
+
+unfoldable pub valueGood : Card → Command → Bool
+valueGood card c = cond (is MRW c) (mayWrite (card .period) (carries c .ma) (carries c .op)) true
+
+-- what the checks of a command go by: which banks are open, the round counter, and the answers to the delay rules' questions
+pub record View : Type 0 where
+  pub open? : ℕ → Bool
+  pub counter : ℕ
+  pub look : Lookup
+
+unfoldable pub viewOf : Card → Past → View
+viewOf card past = record { open? = λ b. isOpen b past; counter = counterAt past; look = find card past }
+
+-- The checks of an entry with stamp t: whether the stamp rises; 19 and 20 through the cycle before it; the pins, the bank state, the value, the delay
+-- rules; 19 and 20 at the stamp.
+unfoldable pub checks : Card → View → (rises : Bool) → (before at : Option (ℕ × ℕ)) → Decoded → (t : ℕ) → List (Option Refusal)
+checks card v rises before at d t =
+    let c = commandOf d in
+    unless rises 5 ∷
+    named 11 before ∷
+    unless (not (isWrong d)) 6 ∷
+    unless (not (isReserved d)) 7 ∷
+    unless (stateGood (v .open?) (v .counter) c) 8 ∷
+    unless (valueGood card c) 9 ∷
+    named 10 (firstBroken (v .look) (delayRules (delaysOf card) c (v .counter)) t) ∷
+    named 11 at ∷ []
+
+-- ---- over the list
+-- t is above the last stamp, and not below it; where there is no entry yet, any is
+unfoldable pub above : Past → ℕ → Bool
+above [] t = true
+above (e ∷ p) t = ltb (e .stamp) t
+
+unfoldable pub notBelow : Past → ℕ → Bool
+notBelow [] t = true
+notBelow (e ∷ p) t = leb (e .stamp) t
+
+unfoldable pub entryChecks : Card → Past → Entry → List (Option Refusal)
+entryChecks card past e =
+    checks card (viewOf card past) (above past (e .stamp))
+    (firstFailing lpddr3 (interval card) (countedStamps past) (e .stamp))
+    (failingAt lpddr3 (interval card) (countedStamps (taken card past e ∷ past)) (e .stamp))
+    (read card past e) (e .stamp)
+
+-- the end: E not below the last stamp; 19 and 20 through E
+unfoldable pub endChecks : Card → Past → ℕ → List (Option Refusal)
+endChecks card past end =
+    unless (notBelow past end) 5 ∷
+    named 11 (firstFailing lpddr3 (interval card) (countedStamps past) (suc end)) ∷ []
+
+unfoldable pub entryRefusal : Card → Past → Entry → Option Refusal
+entryRefusal card past e = firstOf (entryChecks card past e)
+
+unfoldable pub endRefusal : Card → Past → ℕ → Option Refusal
+endRefusal card past end = firstOf (endChecks card past end)

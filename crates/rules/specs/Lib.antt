@@ -1,0 +1,19 @@
+-- Document 01 as definitions over the list of entries, in its order.
+pub mod Lists
+pub mod Bits
+pub mod Card
+pub mod Units
+pub mod Commands
+pub mod Pins
+pub mod Registers
+pub mod Ranges
+pub mod Past
+pub mod States
+pub mod Folds
+pub mod Delays
+pub mod Account
+pub mod Checks
+pub mod Verdict
+pub mod Reading
+pub mod Stretch
+pub mod Bench

@@ -1,0 +1,135 @@
+-- Demand 2 in propositions. A trace is accepted exactly when every entry passes every check against its own past, and the end does; it is refused so at
+-- a place exactly when all before it pass and this is the first check that fails there. proofs/Exactly: `judge` says the same.
+use Prim.Native.Nat.{ℕ, suc, _+_, _*_, _-_, _≤_, _<_}
+use mathlib.Core.Path.{_≡_}
+use mathlib.Core.Logic.{_⊎_, _↔_}
+use mathlib.Core.Bool.{true}
+use mathlib.Core.List.{List, [], _∷_}
+use mathlib.Core.Option.{Option, some}
+use lib.IntN.{ℤ, pos}
+use lib.Signed.{_≤ℤ_}
+use lib.ListN.{length, take, getD}
+use Rattle.rules.specs.Lists.{Every}
+use Rattle.rules.specs.Card.{Card}
+use Rattle.rules.specs.Units.{interval, delaysOf}
+use Rattle.rules.specs.Pins.{wrongBits, reserved}
+use Rattle.rules.specs.Past.{Entry, Past, read, commandOf, taken, pastOver, isOpen, counterAt, countedStamps, commandCount}
+use Rattle.rules.specs.States.{stateGood}
+use Rattle.rules.specs.Folds.{Found, Rule}
+use Rattle.rules.specs.Delays.{find, delayRules}
+use Rattle.rules.specs.Account.{Terms, lpddr3, ledgerAfter, lastCounted}
+use Rattle.rules.specs.Checks.{Refusal, refusal, valueGood}
+
+-- a check: when it passes, and which refusals it gives when it does not
+pub record Check : Type 1 where
+  pub ok : Type 0
+  pub fails : Refusal → Type 0
+
+unfoldable pub AllPass : List Check → Type 0
+AllPass [] = Unit {0}
+AllPass (c ∷ cs) = c .ok × AllPass cs
+
+-- the first check that does not pass gives this refusal
+unfoldable pub FirstFails : List Check → Refusal → Type 0
+FirstFails [] x = ⊥
+FirstFails (c ∷ cs) x = c .fails x ⊎ (c .ok × FirstFails cs x)
+
+-- a check whose refusal is its number alone
+unfoldable pub plainly : ℕ → Type 0 → Check
+plainly k P = record { ok = P; fails = λ x. (¬ P) × (x ≡ refusal k 0 0) }
+
+-- ---- 5: the stamp is above the last entry's, E is not below it
+unfoldable pub Above : Past → ℕ → Type 0
+Above [] t = Unit {0}
+Above (e ∷ p) t = e .stamp < t
+
+unfoldable pub NotBelow : Past → ℕ → Type 0
+NotBelow [] t = Unit {0}
+NotBelow (e ∷ p) t = e .stamp ≤ t
+
+-- ---- 10: the delay rules
+module _ {Q X : Type 0} (look : Q → Option (Found X)) where
+  -- the rule holds at t: each entry that it counts from is that far back
+  unfoldable pub Holds : Rule Q X → ℕ → Type 0
+  Holds q t = Every (λ s. (f : Found X) → look (s .ask) ≡ some f → f .stamp + s .delay (f .noted) ≤ t) (q .sources)
+
+  -- it holds from cycle u on, and not before
+  unfoldable pub FirstPermitted : Rule Q X → ℕ → Type 0
+  FirstPermitted q u = (t : ℕ) → Holds q t ↔ (u ≤ t)
+
+  -- the first rule of the list that does not hold at t is named, with its first permitted cycle
+  unfoldable pub FirstBroken : List (Rule Q X) → ℕ → Refusal → Type 0
+  FirstBroken [] t x = ⊥
+  FirstBroken (q ∷ qs) t x =
+      ((¬ Holds q t) × ((u : ℕ) × FirstPermitted q u × (x ≡ refusal 10 (q .number) u))) ⊎ (Holds q t × FirstBroken qs t x)
+
+  unfoldable pub inTime : List (Rule Q X) → ℕ → Check
+  inTime qs t = record { ok = Every (λ q. Holds q t) qs; fails = FirstBroken qs t }
+
+-- ---- 11: rules 19 and 20 after cycle t
+unfoldable pub WithinLimit : Terms → ℕ → List ℕ → ℕ → Type 0
+WithinLimit k I cs t = ledgerAfter (k .credit) I cs t ≤ℤ pos (k .limit)
+
+unfoldable pub WithinGap : Terms → ℕ → List ℕ → ℕ → Type 0
+WithinGap k I cs t = t - lastCounted cs t ≤ k .gap * I
+
+pub record Paid (k : Terms) (I : ℕ) (cs : List ℕ) (t : ℕ) : Type 0 where
+  pub limit : WithinLimit k I cs t
+  pub gap : WithinGap k I cs t
+
+-- where both fail the limit's rule is named
+unfoldable pub Unpaid : Terms → ℕ → List ℕ → ℕ → Refusal → Type 0
+Unpaid k I cs t x =
+    ((¬ WithinLimit k I cs t) × (x ≡ refusal 11 (k .limitRule) t)) ⊎
+    (WithinLimit k I cs t × (¬ WithinGap k I cs t) × (x ≡ refusal 11 (k .gapRule) t))
+
+unfoldable pub paidAt : Terms → ℕ → List ℕ → ℕ → Check
+paidAt k I cs t = record { ok = Paid k I cs t; fails = Unpaid k I cs t }
+
+-- through all cycles below t, the first that fails is named
+unfoldable pub paidBelow : Terms → ℕ → List ℕ → ℕ → Check
+paidBelow k I cs t = record {
+  ok = (u : ℕ) → u < t → Paid k I cs u;
+  fails = λ x. (u : ℕ) × (u < t) × ((v : ℕ) → v < u → Paid k I cs v) × Unpaid k I cs u x;
+}
+
+-- ---- the checks of an entry against its own past, and of the end, in document 01's order
+unfoldable pub entryReads : Card → Past → Entry → List Check
+entryReads card past e =
+    let c = taken card past e .cmd in
+    let I = interval card in
+    plainly 5 (Above past (e .stamp)) ∷
+    paidBelow lpddr3 I (countedStamps past) (e .stamp) ∷
+    plainly 6 (¬ (read card past e ≡ wrongBits)) ∷
+    plainly 7 (¬ (read card past e ≡ reserved)) ∷
+    plainly 8 (stateGood (λ b. isOpen b past) (counterAt past) c ≡ true) ∷
+    plainly 9 (valueGood card c ≡ true) ∷
+    inTime (find card past) (delayRules (delaysOf card) c (counterAt past)) (e .stamp) ∷
+    paidAt lpddr3 I (countedStamps (taken card past e ∷ past)) (e .stamp) ∷ []
+
+unfoldable pub endReads : Card → Past → ℕ → List Check
+endReads card past end =
+    plainly 5 (NotBelow past end) ∷
+    paidBelow lpddr3 (interval card) (countedStamps past) (suc end) ∷ []
+
+-- ---- the trace, behind a past (none, for a whole trace)
+unfoldable pub blank : Entry
+blank = record { stamp = 0; pins = 0 }
+
+-- entry i against its own past
+unfoldable pub readsAt : Card → Past → List Entry → ℕ → List Check
+readsAt card past es i = entryReads card (pastOver card past (take i es)) (getD es i blank)
+
+-- accepted, with these numbers
+pub record Accepts (card : Card) (past : Past) (es : List Entry) (end m n : ℕ) (l : ℤ) : Type 0 where
+  pub entries : (i : ℕ) → i < length es → AllPass (readsAt card past es i)
+  pub ended : AllPass (endReads card (pastOver card past es) end)
+  pub commands : m ≡ commandCount (pastOver card past es)
+  pub refreshes : n ≡ length (countedStamps (pastOver card past es))
+  pub ledger : l ≡ ledgerAfter (lpddr3 .credit) (interval card) (countedStamps (pastOver card past es)) end
+
+-- refused so at place i: an entry's, or the end's behind all of them
+pub record Refuses (card : Card) (past : Past) (es : List Entry) (end : ℕ) (x : Refusal) (i : ℕ) : Type 0 where
+  pub before : (j : ℕ) → j < i → AllPass (readsAt card past es j)
+  pub here : ((i < length es) × FirstFails (readsAt card past es i) x) ⊎
+      ((i ≡ length es) × FirstFails (endReads card (pastOver card past es) end) x)
