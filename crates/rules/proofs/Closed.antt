@@ -32,7 +32,7 @@ owing-none k I o last t e = ⊎-elim
     (le-cases o (k .credit + k .limit))
 
 -- a counted refresh at c changes nothing before c
-owed-ahead : (k I c : ℕ) (cs : List ℕ) (n : ℕ) → n ≤ c → owed k I (c ∷ cs) n ≡ owed k I cs n
+pub owed-ahead : (k I c : ℕ) (cs : List ℕ) (n : ℕ) → n ≤ c → owed k I (c ∷ cs) n ≡ owed k I cs n
 unfolding owed isOneOf
 owed-ahead k I c cs zero h = refl
 owed-ahead k I c cs (suc t) h = rw (owed-ahead k I c cs t (omega arith), ne-eqb c t (omega arith))
@@ -41,7 +41,7 @@ last-ahead : (c : ℕ) (cs : List ℕ) (t : ℕ) → t < c → lastCounted (c �
 unfolding lastCounted
 last-ahead c cs t h = rw (lt-leb c t h)
 
-not-yet : (c : ℕ) (cs : List ℕ) → Less c cs → isOneOf cs c ≡ false
+pub not-yet : (c : ℕ) (cs : List ℕ) → Less c cs → isOneOf cs c ≡ false
 unfolding Less isOneOf
 not-yet c [] l = refl
 not-yet c (x ∷ xs) l = rw (ne-eqb x c (omega (arith, l .0)), not-yet c xs (l .1))
@@ -116,7 +116,7 @@ module _ (k : Terms) (I : ℕ) (positive : 0 < I) where
       (owed-after (k .credit) I c (c ∷ cs) (newest c cs (f .0)) positive (t - c) ∙ ap (λ (x : ℕ). owedAt I c x (c + (t - c))) o)))
       (lt-cases t c)
 
-  first-ahead : (c : ℕ) (cs : List ℕ) (n : ℕ) → n ≤ c → firstFailing k I (c ∷ cs) n ≡ firstFailing k I cs n
+  pub first-ahead : (c : ℕ) (cs : List ℕ) (n : ℕ) → n ≤ c → firstFailing k I (c ∷ cs) n ≡ firstFailing k I cs n
   unfolding firstFailing
   first-ahead c cs zero h = refl
   first-ahead c cs (suc n) h =

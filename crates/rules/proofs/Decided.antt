@@ -52,6 +52,11 @@ unfolding orElse
 none-orElse {x = none} p q = q
 none-orElse {x = some a} p q = p
 
+pub or-none {ℓ} : {A : Type ℓ} (x : Option A) → orElse x none ≡ x
+unfolding orElse
+or-none none = refl
+or-none (some a) = refl
+
 pub named-none : (k : ℕ) (o : Option (ℕ × ℕ)) → named k o ≡ none → o ≡ none
 unfolding named
 named-none k none e = refl

@@ -9,12 +9,14 @@ use lib.IntN.{ℤ}
 use lib.ListN.{length, take, getD}
 use Rattle.rules.specs.Card.{Card}
 use Rattle.rules.specs.Units.{interval, delaysOf}
-use Rattle.rules.specs.Past.{Entry, Past, read, taken, pastOver, counterAt, countedStamps, commandCount}
+use Rattle.rules.specs.Past.{Past, counterAt, countedStamps, commandCount}
+use Rattle.rules.specs.Entries.{Entry, viewOf, read, taken, pastOver}
 use Rattle.rules.specs.Delays.{find, delayRules}
 use Rattle.rules.specs.Account.{lpddr3, ledgerAfter}
-use Rattle.rules.specs.Checks.{Refusal, viewOf, checks, entryChecks, endChecks, entryRefusal, endRefusal}
+use Rattle.rules.specs.Checks.{Refusal, checks, entryChecks, endChecks, entryRefusal, endRefusal}
 use Rattle.rules.specs.Verdict.{Verdict, accepted, refused, atEnd, judgeFrom, judge}
 use Rattle.rules.specs.Reading.{AllPass, FirstFails, entryReads, endReads, readsAt, Accepts, Refuses}
+use Rattle.rules.proofs.Tests.{nowhere}
 use Rattle.rules.proofs.Decided.{
   decides-plain,
   above-iff,
@@ -30,9 +32,6 @@ use Rattle.rules.proofs.Decided.{
   decides-all,
 }
 
-nowhere : {i : ℕ} → i < 0 → ⊥
-nowhere h = omega arith
-
 accepted-refused : {m n : ℕ} {l : ℤ} {x : Refusal} {k : ℕ} → accepted m n l ≡ refused x k → ⊥
 accepted-refused e = let z : _≡_ {A = ℕ} 0 1 = cc in omega arith
 
@@ -45,9 +44,9 @@ module _ (card : Card) where
     (
       decides-below lpddr3 (interval card) (countedStamps past) (e .stamp),
       (
-        decides-plain 6 _ _ (not-wrong (read card past e)),
+        decides-plain 6 _ _ (not-wrong (read card (viewOf card past) e)),
         (
-          decides-plain 7 _ _ (not-reserved (read card past e)),
+          decides-plain 7 _ _ (not-reserved (read card (viewOf card past) e)),
           (
             decides-plain 8 _ _ (λ h. h, λ h. h),
             (

@@ -14,7 +14,8 @@ use lib.ListN.{length}
 use Rattle.rules.specs.Card.{Card}
 use Rattle.rules.specs.Units.{interval}
 use Rattle.rules.specs.Commands.{Command}
-use Rattle.rules.specs.Past.{Entry, Past, counterAt, refreshes, stampsWhere, refreshStamps, pastOf}
+use Rattle.rules.specs.Past.{Past, counterAt, refreshes, stampsWhere, refreshStamps}
+use Rattle.rules.specs.Entries.{Entry, pastOf}
 use Rattle.rules.specs.Verdict.{accepted, judge}
 use Rattle.rules.specs.Stretch.{countIn, Took}
 use Rattle.rules.proofs.Tests.{lt-cases, le-cases, eq-cases}

@@ -17,6 +17,7 @@ use Rattle.rules.specs.Account.{Terms, ledgerBefore, ledgerAfter, lastCo
 use Rattle.rules.proofs.Tests.{lt-cases, le-cases, eq-cases}
 use Rattle.rules.proofs.Biased.{due, cycle-biased, owing, failing-biased}
 use Rattle.rules.proofs.Dues.{suc-div}
+use Rattle.rules.proofs.Decided.{or-none}
 use Rattle.rules.proofs.Groups.{Less}
 
 -- the biased ledger o after cycle s, at cycle t with no counted refresh since
@@ -200,11 +201,7 @@ first-more k I s cs l j =
 pub first-idle : (k : Terms) (I s : ℕ) (cs : List ℕ) → Less (suc s) cs → (j : ℕ) →
     firstFailing k I cs (suc (s + j)) ≡ orElse (firstFailing k I cs (suc s)) (firstIdle k I (ledgerAfter (k .credit) I cs s) (lastCounted cs s) s j)
 unfolding firstIdle
-first-idle k I s cs l zero = rw add-zero (sym (right-none (firstFailing k I cs (suc s))))
-  where
-    right-none : (o : Option (ℕ × ℕ)) → orElse o none ≡ o
-    right-none none = unfold orElse in refl
-    right-none (some x) = unfold orElse in refl
+first-idle k I s cs l zero = rw add-zero (sym (or-none (firstFailing k I cs (suc s))))
 first-idle k I s cs l (suc j) = first-more k I s cs l j ∙ ap (λ (o : Option (ℕ × ℕ)). orElse o now) (first-idle k I s cs l j) ∙ assoc (firstFailing k I cs (suc s))
   where
     now : Option (ℕ × ℕ)

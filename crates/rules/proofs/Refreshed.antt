@@ -10,7 +10,8 @@ use lib.Signed.{leZ}
 use lib.ListN.{length}
 use Rattle.rules.specs.Card.{Card}
 use Rattle.rules.specs.Units.{interval}
-use Rattle.rules.specs.Past.{Entry, Past, taken, pastOver, pastOf, refreshStamps, countedStamps}
+use Rattle.rules.specs.Past.{Past, refreshStamps, countedStamps}
+use Rattle.rules.specs.Entries.{Entry, taken, pastOver, pastOf}
 use Rattle.rules.specs.Account.{Terms, lpddr3, ledgerAfter}
 use Rattle.rules.specs.Verdict.{accepted, judge}
 use Rattle.rules.specs.Reading.{AllPass, plainly, Above, NotBelow, WithinLimit, Paid, paidBelow, entryReads, endReads, readsAt, Accepts}

@@ -9,10 +9,11 @@ use Rattle.rules.specs.Units.{interval, delaysOf}
 use Rattle.rules.specs.Commands.{Command, carries, is, MRW}
 use Rattle.rules.specs.Pins.{Decoded, good, wrongBits, reserved}
 use Rattle.rules.specs.Registers.{mayWrite}
-use Rattle.rules.specs.Past.{Entry, Past, read, commandOf, taken, isOpen, counterAt, countedStamps}
+use Rattle.rules.specs.Past.{Past, countedStamps}
 use Rattle.rules.specs.States.{stateGood}
 use Rattle.rules.specs.Folds.{firstOf, firstBroken}
-use Rattle.rules.specs.Delays.{Lookup, find, delayRules}
+use Rattle.rules.specs.Delays.{delayRules}
+use Rattle.rules.specs.Entries.{Entry, View, viewOf, read, commandOf, taken}
 use Rattle.rules.specs.Account.{lpddr3, failingAt, firstFailing}
 
 -- a refusal's number, rule and cycle; rule and cycle are 0 except for 10 and 11
@@ -47,15 +48,6 @@ isReserved reserved = true
 unfoldable pub valueGood : Card → Command → Bool
 valueGood card c = cond (is MRW c) (mayWrite (card .period) (carries c .ma) (carries c .op)) true
 
--- what the checks of a command go by: which banks are open, the round counter, and the answers to the delay rules' questions
-pub record View : Type 0 where
-  pub open? : ℕ → Bool
-  pub counter : ℕ
-  pub look : Lookup
-
-unfoldable pub viewOf : Card → Past → View
-viewOf card past = record { open? = λ b. isOpen b past; counter = counterAt past; look = find card past }
-
 -- The checks of an entry with stamp t: whether the stamp rises; 19 and 20 through the cycle before it; the pins, the bank state, the value, the delay
 -- rules; 19 and 20 at the stamp.
 unfoldable pub checks : Card → View → (rises : Bool) → (before at : Option (ℕ × ℕ)) → Decoded → (t : ℕ) → List (Option Refusal)
@@ -85,7 +77,7 @@ entryChecks card past e =
     checks card (viewOf card past) (above past (e .stamp))
     (firstFailing lpddr3 (interval card) (countedStamps past) (e .stamp))
     (failingAt lpddr3 (interval card) (countedStamps (taken card past e ∷ past)) (e .stamp))
-    (read card past e) (e .stamp)
+    (read card (viewOf card past) e) (e .stamp)
 
 -- the end: E not below the last stamp; 19 and 20 through E
 unfoldable pub endChecks : Card → Past → ℕ → List (Option Refusal)

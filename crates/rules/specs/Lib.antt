@@ -11,9 +11,16 @@ pub mod Past
 pub mod States
 pub mod Folds
 pub mod Delays
+pub mod Entries
 pub mod Account
 pub mod Checks
 pub mod Verdict
 pub mod Reading
 pub mod Stretch
+pub mod Form
+pub mod File
+pub mod FileReading
+pub mod Lent
+pub mod Writer
+pub mod Lines
 pub mod Bench

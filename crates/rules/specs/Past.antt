@@ -1,17 +1,11 @@
--- Entries, and what stands after those that were taken: mode register 2, open banks, the round counter, the counted refreshes and the refreshes of a
--- bank (document 01, "Bank states", "The refresh account"). All are functions of the list alone.
+-- What stands after the entries that were taken: mode register 2, open banks, the round counter, the counted refreshes and the refreshes of a bank
+-- (document 01, "Bank states", "The refresh account"). All are functions of the list alone.
 use Prim.Native.Nat.{ℕ, zero, suc}
 use mathlib.Core.Bool.{Bool, true, false, cond, not, _&&_, _||_}
 use mathlib.Core.List.{List, [], _∷_}
 use lib.Dec.{eqb}
 use Rattle.rules.specs.Card.{Card}
-use Rattle.rules.specs.Commands.{Command, nop, NOP, MRW, REFPB, REFAB, ACT, RD, WR, PRE, PREA, is, carries, bankOf, apOf}
-use Rattle.rules.specs.Pins.{Decoded, good, wrongBits, reserved, decode}
-
--- an entry of the file
-pub record Entry : Type 0 where
-  pub stamp : ℕ
-  pub pins : ℕ
+use Rattle.rules.specs.Commands.{Command, NOP, MRW, REFPB, REFAB, ACT, RD, WR, PRE, PREA, is, carries, bankOf, apOf}
 
 -- an entry that was taken, with its command
 pub record Taken : Type 0 where
@@ -22,30 +16,13 @@ pub record Taken : Type 0 where
 abbrev pub Past : Type 0
 Past = List Taken
 
--- The one place that turns an entry's pins into its command. The base goes by the pins alone.
-unfoldable pub read : Card → Past → Entry → Decoded
-read card past e = decode (e .pins)
-
-unfoldable pub commandOf : Decoded → Command
-commandOf (good c) = c
-commandOf wrongBits = nop
-commandOf reserved = nop
-
-unfoldable pub taken : Card → Past → Entry → Taken
-taken card past e = record { stamp = e .stamp; cmd = commandOf (read card past e) }
-
--- the past after these entries
-unfoldable pub pastOver : Card → Past → List Entry → Past
-pastOver card past [] = past
-pastOver card past (e ∷ es) = pastOver card (taken card past e ∷ past) es
-
-unfoldable pub pastOf : Card → List Entry → Past
-pastOf card es = pastOver card [] es
-
 -- ---- mode registers: the latest value written, or the starting one. A new value holds from the next entry on
+unfoldable pub registerAfter : (ma : ℕ) → Command → ℕ → ℕ
+registerAfter ma c v = cond (is MRW c && eqb (carries c .ma) ma) (carries c .op) v
+
 unfoldable pub register : (ma start : ℕ) → Past → ℕ
 register ma start [] = start
-register ma start (e ∷ t) = cond (is MRW (e .cmd) && eqb (carries (e .cmd) .ma) ma) (carries (e .cmd) .op) (register ma start t)
+register ma start (e ∷ t) = registerAfter ma (e .cmd) (register ma start t)
 
 unfoldable pub mr2At : Card → Past → ℕ
 mr2At card past = register 2 (card .mr2) past

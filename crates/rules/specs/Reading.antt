@@ -13,10 +13,11 @@ use Rattle.rules.specs.Lists.{Every}
 use Rattle.rules.specs.Card.{Card}
 use Rattle.rules.specs.Units.{interval, delaysOf}
 use Rattle.rules.specs.Pins.{wrongBits, reserved}
-use Rattle.rules.specs.Past.{Entry, Past, read, commandOf, taken, pastOver, isOpen, counterAt, countedStamps, commandCount}
+use Rattle.rules.specs.Past.{Past, isOpen, counterAt, countedStamps, commandCount}
 use Rattle.rules.specs.States.{stateGood}
 use Rattle.rules.specs.Folds.{Found, Rule}
 use Rattle.rules.specs.Delays.{find, delayRules}
+use Rattle.rules.specs.Entries.{Entry, viewOf, read, taken, pastOver}
 use Rattle.rules.specs.Account.{Terms, lpddr3, ledgerAfter, lastCounted}
 use Rattle.rules.specs.Checks.{Refusal, refusal, valueGood}
 
@@ -100,8 +101,8 @@ entryReads card past e =
     let I = interval card in
     plainly 5 (Above past (e .stamp)) ∷
     paidBelow lpddr3 I (countedStamps past) (e .stamp) ∷
-    plainly 6 (¬ (read card past e ≡ wrongBits)) ∷
-    plainly 7 (¬ (read card past e ≡ reserved)) ∷
+    plainly 6 (¬ (read card (viewOf card past) e ≡ wrongBits)) ∷
+    plainly 7 (¬ (read card (viewOf card past) e ≡ reserved)) ∷
     plainly 8 (stateGood (λ b. isOpen b past) (counterAt past) c ≡ true) ∷
     plainly 9 (valueGood card c ≡ true) ∷
     inTime (find card past) (delayRules (delaysOf card) c (counterAt past)) (e .stamp) ∷

@@ -6,7 +6,8 @@ use lib.IntN.{ℤ}
 use lib.ListN.{length}
 use Rattle.rules.specs.Card.{Card}
 use Rattle.rules.specs.Units.{interval}
-use Rattle.rules.specs.Past.{Entry, Past, taken, countedStamps, commandCount}
+use Rattle.rules.specs.Past.{Past, countedStamps, commandCount}
+use Rattle.rules.specs.Entries.{Entry, taken}
 use Rattle.rules.specs.Account.{lpddr3, ledgerAfter}
 use Rattle.rules.specs.Checks.{Refusal, entryRefusal, endRefusal}
 

@@ -1,0 +1,86 @@
+-- What the histories of an accepted past hold passes refusal 13's tests: no stamp is above the last entry's, and the MR2 values noted are good.
+use Prim.Native.Nat.{ℕ, zero, suc}
+use mathlib.Core.Path.{_≡_, refl}
+use mathlib.Core.Bool.{Bool, true, false, cond}
+use mathlib.Core.List.{List, [], _∷_}
+use native.Mathlib.Omega.{arith}
+use lib.Dec.{leb}
+use lib.ListN.{take}
+use borrow.Author.Tests.{le-leb}
+use Rattle.rules.specs.Lists.{all}
+use Rattle.rules.specs.Card.{Card}
+use Rattle.rules.specs.Commands.{Command, banks}
+use Rattle.rules.specs.Registers.{mr2Good}
+use Rattle.rules.specs.Ranges.{cardGood}
+use Rattle.rules.specs.Past.{Past, mr2At}
+use Rattle.rules.specs.Folds.{Found}
+use Rattle.rules.specs.Delays.{Ask, Question, Meaning, means}
+use Rattle.rules.specs.Lent.{History, asks, allStored, notAbove, remembered, historyAfter, lastOf, lastCycle, historyOf, AllTaken}
+use Rattle.rules.proofs.Tests.{both-true}
+use Rattle.rules.proofs.Rounds.{AllBelow, Rising}
+use Rattle.rules.proofs.Taken.{below-last, mr2-good}
+
+module _ {A : Type 0} (p : A → Bool) where
+  all-of : ((x : A) → p x ≡ true) → (l : List A) → all p l ≡ true
+  unfolding all
+  all-of h [] = refl
+  all-of h (x ∷ l) = rw (h x, all-of h l)
+
+  all-cons : (x : A) (l : List A) → p x ≡ true → all p l ≡ true → all p (x ∷ l) ≡ true
+  unfolding all
+  all-cons x l h g = rw (h, g)
+
+  all-take : (n : ℕ) (l : List A) → all p l ≡ true → all p (take n l) ≡ true
+  unfolding all
+  all-take zero l h = refl
+  all-take (suc n) [] h = refl
+  all-take (suc n) (x ∷ l) h = let b = both-true (p x) (all p l) h in all-cons x (take n l) (b .0) (all-take n l (b .1))
+
+pub stored-of : (p : Ask → Found ℕ → Bool) (h : History) → ((q : Question) → all (p (q .ask)) (h q) ≡ true) → allStored p h ≡ true
+unfolding allStored
+stored-of p h g = all-of _ (λ a. all-of _ (λ b. g (record { ask = a; bank = b })) banks) asks
+
+-- an entry more
+module _ (p : Found ℕ → Bool) where
+  all-remembered : (m : Meaning) (c : Command) (f : Found ℕ) (h : List (Found ℕ)) → p f ≡ true → all p h ≡ true → all p (remembered m c f h) ≡ true
+  unfolding remembered
+  all-remembered m c f h pf ph = go (m .only c)
+    where
+      go : (x : Bool) → all p (cond x (f ∷ take (m .passed) h) []) ≡ true
+      go true = all-cons p f (take (m .passed) h) pf (all-take p (m .passed) h ph)
+      go false = unfold all in refl
+
+  all-after : (c : Command) (n t mr2 : ℕ) (h : History) (q : Question) → p (record { stamp = t; noted = cond (means (q .ask) .lags) mr2 0 }) ≡ true →
+      all p (h q) ≡ true → all p (historyAfter c n t mr2 h q) ≡ true
+  unfolding historyAfter
+  all-after c n t mr2 h q pf ph = go (means (q .ask) .among (q .bank) c n)
+    where
+      go : (x : Bool) →
+          all p (cond x (remembered (means (q .ask)) c (record { stamp = t; noted = cond (means (q .ask) .lags) mr2 0 }) (h q)) (h q)) ≡ true
+      go true = all-remembered (means (q .ask)) c _ (h q) pf ph
+      go false = ph
+
+module _ (card : Card) where
+  pub not-above : (s : ℕ) (past : Past) → AllBelow (suc s) past → (q : Question) → all (λ f. leb (f .stamp) s) (historyOf card past q) ≡ true
+  unfolding historyOf AllBelow
+  not-above s [] b q = unfold all in refl
+  not-above s (e ∷ t) b q = all-after (λ f. leb (f .stamp) s) (e .cmd) _ _ _ (historyOf card t) q (le-leb (e .stamp) s (omega arith)) (not-above s t (b .1) q)
+
+  pub stamps-stored : (past : Past) → Rising past → allStored (λ a f. notAbove (lastOf past) (f .stamp)) (historyOf card past) ≡ true
+  unfolding lastOf notAbove
+  stamps-stored [] r = stored-of _ (historyOf card []) (λ q. unfold historyOf all in refl)
+  stamps-stored (e ∷ t) r = stored-of _ (historyOf card (e ∷ t)) (not-above (e .stamp) (e ∷ t) (unfold lastCycle in below-last (e ∷ t) r))
+
+  pub noted-good : cardGood card ≡ true → (past : Past) → AllTaken card past → (q : Question) →
+      all (λ f. cond (means (q .ask) .lags) (mr2Good (card .period) (f .noted)) true) (historyOf card past q) ≡ true
+  unfolding historyOf AllTaken
+  noted-good good [] t q = unfold all in refl
+  noted-good good (e ∷ past) t q = all-after _ (e .cmd) _ _ _ (historyOf card past) q (go (means (q .ask) .lags)) (noted-good good past (t .1) q)
+    where
+      go : (x : Bool) → cond x (mr2Good (card .period) (cond x (mr2At card past) 0)) true ≡ true
+      go true = mr2-good card good past (t .1)
+      go false = refl
+
+  pub mr2s-stored : cardGood card ≡ true → (past : Past) → AllTaken card past →
+      allStored (λ a f. cond (means a .lags) (mr2Good (card .period) (f .noted)) true) (historyOf card past) ≡ true
+  mr2s-stored good past t = stored-of _ (historyOf card past) (noted-good good past t)

@@ -1,0 +1,143 @@
+-- Tagged fields over the list of bytes: head, card, entry, end (document 01, "The file: card, entries, end"). What was read of the card is the list of its
+-- fields, the newest first; the tests of a tag, of a length and of a whole card are predicates of that.
+use Prim.Native.Nat.{ℕ, suc, _+_, _*_}
+use mathlib.Core.Bool.{Bool, false, cond, _&&_, _||_}
+use mathlib.Core.List.{List, [], _∷_}
+use lib.Dec.{leb, eqb}
+use lib.ListN.{length, take, drop}
+use Rattle.rules.specs.Card.{Timing, Card}
+use Rattle.rules.specs.Registers.{mr2Good}
+use Rattle.rules.specs.Ranges.{periodGood, groupsGood, trefiGood, timingGood}
+use Rattle.rules.specs.Entries.{Entry}
+
+-- a field as it stands in the file: a tag byte, the two bytes of its length, the value
+pub record Field : Type 0 where
+  pub tag : ℕ
+  pub high : ℕ
+  pub low : ℕ
+  pub value : List ℕ
+
+unfoldable pub bytesOf : Field → List ℕ
+bytesOf f = f .tag ∷ f .high ∷ f .low ∷ f .value
+
+unfoldable pub sizeOf : Field → ℕ
+sizeOf f = 3 + length (f .value)
+
+-- numbers are big-endian
+unfoldable pub numberFrom : ℕ → List ℕ → ℕ
+numberFrom a [] = a
+numberFrom a (b ∷ bs) = numberFrom (256 * a + b) bs
+
+unfoldable pub number : List ℕ → ℕ
+number = numberFrom 0
+
+-- ---- tags and lengths
+-- the card is tags 1 to 18, each once, in this order
+unfoldable pub nextTag : List Field → ℕ
+nextTag [] = 1
+nextTag (f ∷ fs) = suc (f .tag)
+
+unfoldable pub cardWhole : List Field → Bool
+cardWhole [] = false
+cardWhole (f ∷ fs) = eqb (f .tag) 18
+
+-- the next tag of the card, or behind it an entry (32) or the end (33)
+unfoldable pub mayCome : List Field → ℕ → Bool
+mayCome fs tag = cond (cardWhole fs) (eqb tag 32 || eqb tag 33) (eqb tag (nextTag fs))
+
+-- a tag and a length that it may have
+pub record Listed : Type 0 where
+  pub tag : ℕ
+  pub size : ℕ
+
+infix 90 _of_
+unfoldable pub _of_ : ℕ → ℕ → Listed
+t of l = record { tag = t; size = l }
+
+unfoldable pub lengths : List Listed
+lengths =
+    1 of 4 ∷ 2 of 1 ∷ 3 of 2 ∷ 4 of 4 ∷
+    5 of 5 ∷ 6 of 5 ∷ 7 of 5 ∷ 8 of 5 ∷ 9 of 5 ∷ 10 of 5 ∷ 11 of 5 ∷ 12 of 5 ∷ 13 of 5 ∷ 14 of 5 ∷ 15 of 5 ∷ 16 of 5 ∷ 17 of 5 ∷ 18 of 5 ∷
+    32 of 7 ∷ 33 of 4 ∷ []
+
+unfoldable pub isListed : List Listed → (tag size : ℕ) → Bool
+isListed [] t l = false
+isListed (x ∷ xs) t l = (eqb (x .tag) t && eqb (x .size) l) || isListed xs t l
+
+unfoldable pub lengthGood : (tag size : ℕ) → Bool
+lengthGood = isListed lengths
+
+-- ---- the head of what is left: tag, length, cut
+pub data Head : Type 0 where
+  whole : Field → (rest : List ℕ) → Head
+  cut : Head
+  badTag : Head
+  badLength : Head
+
+unfoldable pub valued : (tag high low : ℕ) → List ℕ → Head
+valued t h l bs =
+    cond (leb (256 * h + l) (length bs))
+    (whole (record { tag = t; high = h; low = l; value = take (256 * h + l) bs }) (drop (256 * h + l) bs)) cut
+
+unfoldable pub sized : (tag : ℕ) → List ℕ → Head
+sized t [] = cut
+sized t (h ∷ []) = cut
+sized t (h ∷ l ∷ bs) = cond (lengthGood t (256 * h + l)) (valued t h l bs) badLength
+
+unfoldable pub headOf : List Field → List ℕ → Head
+headOf fs [] = cut
+headOf fs (t ∷ bs) = cond (mayCome fs t) (sized t bs) badTag
+
+-- ---- values
+unfoldable pub timingOf : List ℕ → Timing
+timingOf v = record { duration = number (take 4 v); floor = number (drop 4 v) }
+
+-- the value of the card's field with this tag
+unfoldable pub valueOf : ℕ → List Field → List ℕ
+valueOf t [] = []
+valueOf t (f ∷ fs) = cond (eqb (f .tag) t) (f .value) (valueOf t fs)
+
+unfoldable pub numberAt : ℕ → List Field → ℕ
+numberAt t fs = number (valueOf t fs)
+
+unfoldable pub timingAt : ℕ → List Field → Timing
+timingAt t fs = timingOf (valueOf t fs)
+
+unfoldable pub cardOf : List Field → Card
+cardOf fs = record {
+  period = numberAt 1 fs;
+  mr2 = numberAt 2 fs;
+  groups = numberAt 3 fs;
+  trefi = numberAt 4 fs;
+  trcd = timingAt 5 fs;
+  trppb = timingAt 6 fs;
+  trpab = timingAt 7 fs;
+  tras = timingAt 8 fs;
+  trrd = timingAt 9 fs;
+  tfaw = timingAt 10 fs;
+  trtp = timingAt 11 fs;
+  twr = timingAt 12 fs;
+  twtr = timingAt 13 fs;
+  tdqsck = timingAt 14 fs;
+  trfcab = timingAt 15 fs;
+  trfcpb = timingAt 16 fs;
+  tmrr = timingAt 17 fs;
+  tmrw = timingAt 18 fs;
+}
+
+-- a card value in range; MR2 and tREFI are held against the period read before
+unfoldable pub fieldGood : List Field → Field → Bool
+fieldGood fs f =
+    let t = f .tag in
+    let x = number (f .value) in
+    cond (eqb t 1) (periodGood x)
+    (cond (eqb t 2) (mr2Good (numberAt 1 fs) x)
+    (cond (eqb t 3) (groupsGood x)
+    (cond (eqb t 4) (trefiGood (numberAt 1 fs) x) (timingGood (timingOf (f .value))))))
+
+-- an entry: stamp (4 bytes), pins (3); the end: E
+unfoldable pub entryOf : Field → Entry
+entryOf f = record { stamp = number (take 4 (f .value)); pins = number (drop 4 (f .value)) }
+
+unfoldable pub endOf : Field → ℕ
+endOf f = number (f .value)
