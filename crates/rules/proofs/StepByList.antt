@@ -80,6 +80,16 @@ unfolding lastCycle lastBy lastOf
 last-within [] t h = refl
 last-within (e ∷ p) t h = le-leb (e .stamp) t h
 
+above-same : (past : Past) (t : ℕ) → aboveLast (lastOf past) t ≡ above past t
+unfolding aboveLast lastOf above
+above-same [] t = refl
+above-same (e ∷ p) t = refl
+
+last-same : (past : Past) (t : ℕ) → lastBy (lastOf past) t ≡ notBelow past t
+unfolding lastBy lastOf notBelow
+last-same [] t = refl
+last-same (e ∷ p) t = refl
+
 -- the cycle that the ledger stands at
 abbrev pub standsAt : Card → Past → ℕ → ℕ
 standsAt card past c = standingLedger card past c .at
@@ -148,13 +158,9 @@ module _ (card : Card) (past : Past) (c : ℕ) (good : cardGood card ≡ true) (
       go true = refreshed-here (interval card) (e .stamp) cs (less-where isCounted (e .stamp) past (above-all past (e .stamp) (rising card past all) a))
       go false = unfold refreshedAt in refl
 
-  rises-same : (t : ℕ) → standsAt card past c ≤ t → (aboveLast (lastOf past) t && leb (standsAt card past c) t) ≡ above past t
-  unfolding aboveLast lastOf above
-  rises-same t h = rw (le-leb _ t h, and-true (aboveLast (lastOf past) t)) (go past)
-    where
-      go : (p : Past) → aboveLast (lastOf p) t ≡ above p t
-      go [] = refl
-      go (x ∷ p) = refl
+  -- a test of the last entry, where the ledger's cycle is not passed
+  from-at : {x y : Bool} (t : ℕ) → standsAt card past c ≤ t → x ≡ y → (x && leb (standsAt card past c) t) ≡ y
+  from-at {x} t h e = rw (le-leb _ t h, and-true x) e
 
   failing-with : (e : Entry) → standsAt card past c ≤ e .stamp → Above past (e .stamp) →
       failingOf (interval card) (ledgerWith (standing card past c) e) ≡ failingAt lpddr3 (interval card) (countedStamps (taken card past e ∷ past)) (e .stamp)
@@ -164,7 +170,7 @@ module _ (card : Card) (past : Past) (c : ℕ) (good : cardGood card ≡ true) (
   step-checks : (e : Entry) → standsAt card past c ≤ e .stamp →
       stepRefusal (standing card past c) e ≡ judgedAt card past e (failingOf (interval card) (ledgerWith (standing card past c) e))
   unfolding stepRefusal standing
-  step-checks e h = rw (lent-good, view-same, rises-same (e .stamp) h, failing-until (e .stamp) h) (unfold firstOf orElse unless in refl)
+  step-checks e h = rw (lent-good, view-same, from-at (e .stamp) h (above-same past (e .stamp)), failing-until (e .stamp) h) (unfold firstOf orElse unless in refl)
 
   pub step-by-list : (e : Entry) → standsAt card past c ≤ e .stamp → stepRefusal (standing card past c) e ≡ entryRefusal card past e
   unfolding entryRefusal entryChecks
@@ -202,21 +208,13 @@ module _ (card : Card) (past : Past) (c : ℕ) (good : cardGood card ≡ true) (
       (((e, refl, p .1), all), rw (cycle-moved (e .stamp) (p .0) .1) (paid-with card (interval-positive card good) past e (passed card past e (p .1))))
 
   -- ---- the end
-  ends-same : (end : ℕ) → standsAt card past c ≤ end → (lastBy (lastOf past) end && leb (standsAt card past c) end) ≡ notBelow past end
-  unfolding lastBy lastOf notBelow
-  ends-same end h = rw (le-leb _ end h, and-true (lastBy (lastOf past) end)) (go past)
-    where
-      go : (p : Past) → lastBy (lastOf p) end ≡ notBelow p end
-      go [] = refl
-      go (x ∷ p) = refl
-
   pub close-below : (end : ℕ) → end < standsAt card past c → closeRefusal (standing card past c) end ≡ some (refusal 5 0 0)
   unfolding closeRefusal standing firstOf orElse unless
   close-below end h = rw (lent-good, lt-leb _ _ h, and-false (lastBy (lastOf past) end))
 
   pub close-by-list : (end : ℕ) → standsAt card past c ≤ end → closeRefusal (standing card past c) end ≡ endRefusal card past end
   unfolding closeRefusal standing endRefusal endChecks
-  close-by-list end h = rw (lent-good, ends-same end h, failing-until (suc end) (omega arith)) (unfold firstOf orElse unless in refl)
+  close-by-list end h = rw (lent-good, from-at end h (last-same past end), failing-until (suc end) (omega arith)) (unfold firstOf orElse unless in refl)
 
   pub owing-by-list : (end : ℕ) → standsAt card past c ≤ end →
       owingAt (standing card past c) end ≡ ledgerAfter (lpddr3 .credit) (interval card) (countedStamps past) end
