@@ -17,7 +17,7 @@ use Rattle.rules.proofs.Tests.{lt-cases, le-cases, some-none}
 use Rattle.rules.proofs.Biased.{due, owed, ledger-biased, owing, failingAt-biased}
 use Rattle.rules.proofs.Groups.{Less, Falling}
 use Rattle.rules.proofs.Decided.{orElse-none}
-use Rattle.rules.proofs.Idle.{owedAt, owed-more, next19, next20, firstNext, idle-closed, not-one, first-idle}
+use Rattle.rules.proofs.Idle.{owedAt, owed-more, next19, next20, firstNext, after-is, idle-closed, not-one, first-idle}
 
 pub owing-none : (k : Terms) (I o last t : ℕ) → owing k I o last t ≡ none → (o ≤ k .credit + k .limit) × (t - last ≤ k .gap * I)
 unfolding owing
@@ -68,7 +68,7 @@ owed-next k I s cs l j = rw (not-one s (suc (s + j)) cs l (omega arith))
 owed-after : (k I s : ℕ) (cs : List ℕ) → Less (suc s) cs → 0 < I → (j : ℕ) → owed k I cs (suc (s + j)) ≡ owedAt I s (owed k I cs (suc s)) (s + j)
 owed-after k I s cs l h zero = rw add-zero (unfold owedAt in omega arith)
 owed-after k I s cs l h (suc j) =
-    rw add-suc (owed-next k I s cs l j ∙ ap (λ (x : ℕ). x + due I (suc (s + j)) - 0) (owed-after k I s cs l h j) ∙ owed-more I s (owed k I cs (suc s)) j h)
+    rw add-suc (owed-next k I s cs l j ∙ ap (λ (x : ℕ). x + due I (suc (s + j)) - 0) (owed-after k I s cs l h j) ∙ owed-more I h s (owed k I cs (suc s)) j)
 
 module _ (k : Terms) (I : ℕ) (positive : 0 < I) where
   pub first-after : (s : ℕ) (cs : List ℕ) → Less (suc s) cs → (j : ℕ) →
@@ -84,7 +84,7 @@ module _ (k : Terms) (I : ℕ) (positive : 0 < I) where
           let now : failingAt k I cs s ≡ none = unfold firstFailing in orElse-none _ _ e .1 in
           let fine = owing-none k I (owed (k .credit) I cs (suc s)) (lastCounted cs s) s (sym (failingAt-biased k I cs s) ∙ now) in
           let z : ledgerAfter (k .credit) I cs s ≡ subℕ (owed (k .credit) I cs (suc s)) (k .credit) = unfold ledgerAfter in ledger-biased (k .credit) I cs (suc s) in
-          rw z (ap (orElse (firstFailing k I cs (suc s))) (idle-closed k I s (owed (k .credit) I cs (suc s)) (lastCounted cs s) positive (fine .0) (fine .1) j))
+          rw z (ap (orElse (firstFailing k I cs (suc s))) (rw (after-is k I s (lastCounted cs s) (fine .1)) at (idle-closed I positive k s (owed (k .credit) I cs (suc s)) (lastCounted cs s) (fine .0) j)))
 
 -- ---- by the counted refreshes, the newest first
 module _ (k : Terms) (I : ℕ) where

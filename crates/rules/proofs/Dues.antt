@@ -1,7 +1,7 @@
 -- The dues: the positive multiples of I among the cycles below n, in closed form.
 use Prim.Native.Nat.{ℕ, zero, suc, _+_, _*_, _-_, _/_, _%_, _≤_, _<_}
 use mathlib.Core.Path.{_≡_, refl, ap, _∙_}
-use mathlib.Core.Logic.{⊎-elim}
+use mathlib.Core.Logic.{⊎-elim, _↔_}
 use mathlib.Core.Bool.{true, false, cond}
 use native.Mathlib.Nat.{add-suc, suc-add, div-add-mod', mod-lt, zero-div, div-mul-le-self, le-div-iff-mul-le, add-mul}
 use native.Mathlib.Omega.{arith}
@@ -39,6 +39,21 @@ suc-div I t h = ⊎-elim inside last (lt-cases (suc (t % I)) I)
         let d : suc t / I ≡ suc (t / I) = ap (λ (x : ℕ). x / I) e ∙ digits-div (suc (t / I)) h in
         let m : suc t % I ≡ 0 = ap (λ (x : ℕ). x % I) e ∙ digits-mod (suc (t / I)) h in
         rw (d, eq-eqb (suc t % I) 0 m) (omega arith)
+
+-- what the account's closed forms ask of the way in which cycles add dues: how many fell due up to a cycle, and the first cycle by which n did
+pub record Counts (due : ℕ → ℕ) : Type 0 where
+  pub upTo : ℕ → ℕ
+  pub reach : ℕ → ℕ
+  pub next : (t : ℕ) → upTo (suc t) ≡ upTo t + due (suc t)
+  pub reached : (n t : ℕ) → (reach n ≤ t) ↔ (n ≤ upTo t)
+
+unfoldable pub multiples : (I : ℕ) → 0 < I → Counts (due I)
+multiples I h = record {
+  upTo = λ t. t / I;
+  reach = λ n. n * I;
+  next = λ t. suc-div I t h;
+  reached = λ n t. (le-div-iff-mul-le h .1, le-div-iff-mul-le h .0);
+}
 
 pub dues-div : (I t : ℕ) → 0 < I → dues I (suc t) ≡ t / I
 unfolding dues due isDue

@@ -1,12 +1,12 @@
--- The account over idle time in closed form, from a ledger that stands as after some cycle: the ledger then, and the first cycle that fails. And the
--- account of a list, from its last counted refresh on, is idle time.
-use Prim.Native.Nat.{ℕ, zero, suc, _+_, _*_, _-_, _/_, _≤_, _<_, min}
+-- The account over idle time in closed form, from a ledger that stands as after some cycle: the ledger then, and the first cycle that fails, from two facts
+-- about how cycles add dues (`Counts`). And the account of a list, from its last counted refresh on, is idle time.
+use Prim.Native.Nat.{ℕ, zero, suc, _+_, _*_, _-_, _/_, _≤_, _<_, min, max}
 use mathlib.Core.Path.{_≡_, refl, ap, sym, _∙_, subst}
 use mathlib.Core.Logic.{_⊎_, inl, inr, ⊎-elim}
 use mathlib.Core.Bool.{Bool, true, false, cond, _||_}
 use mathlib.Core.List.{List, [], _∷_}
 use mathlib.Core.Option.{Option, none, some}
-use native.Mathlib.Nat.{add-zero, add-suc, le-div-iff-mul-le, lt-div-mul-add, mul-le-mul-right, min-eq-left, min-eq-right, le-of-lt}
+use native.Mathlib.Nat.{add-zero, add-suc, min-eq-left, min-eq-right, le-of-lt}
 use native.Mathlib.Omega.{arith}
 use lib.Dec.{leb, ltb, eqb}
 use lib.IntN.{ℤ, subℕ}
@@ -16,34 +16,43 @@ use Rattle.rules.specs.Folds.{orElse}
 use Rattle.rules.specs.Account.{Terms, ledgerBefore, ledgerAfter, lastCounted, failing, failingAt, firstFailing, cycle, idle, firstIdle}
 use Rattle.rules.proofs.Tests.{lt-cases, le-cases, eq-cases}
 use Rattle.rules.proofs.Biased.{due, cycle-biased, owing, failing-biased}
-use Rattle.rules.proofs.Dues.{suc-div}
+use Rattle.rules.proofs.Dues.{Counts, multiples}
 use Rattle.rules.proofs.Decided.{or-none}
 use Rattle.rules.proofs.Groups.{Less}
 
--- the biased ledger o after cycle s, at cycle t with no counted refresh since
-unfoldable pub owedAt : (I s o t : ℕ) → ℕ
-owedAt I s o t = o + (t / I - s / I)
+-- ---- by any way in which cycles add dues
+module _ (I : ℕ) (by : Counts (due I)) where
+  -- the biased ledger o after cycle s, at cycle t with no counted refresh since
+  unfoldable owedBy : (s o t : ℕ) → ℕ
+  owedBy s o t = o + (by .upTo t - by .upTo s)
 
-div-rise : (I s j : ℕ) → 0 < I → s / I ≤ (s + j) / I
-div-rise I s zero h = rw add-zero (omega arith)
-div-rise I s (suc j) h = rw add-suc (omega (arith, div-rise I s j h, suc-div I (s + j) h))
+  rise : (s j : ℕ) → by .upTo s ≤ by .upTo (s + j)
+  rise s zero = rw add-zero (omega arith)
+  rise s (suc j) = rw add-suc (omega (arith, rise s j, by .next (s + j)))
 
-pub owed-more : (I s o j : ℕ) → 0 < I → owedAt I s o (s + j) + due I (suc (s + j)) - 0 ≡ owedAt I s o (suc (s + j))
-unfolding owedAt
-owed-more I s o j h = omega (arith, suc-div I (s + j) h, div-rise I s j h)
+  rise-to : (s t : ℕ) → s ≤ t → by .upTo s ≤ by .upTo t
+  rise-to s t h = let z : s + (t - s) ≡ t = omega arith in subst (λ (u : ℕ). by .upTo s ≤ by .upTo u) z (rise s (t - s))
 
-pub idle-biased : (k I o s j : ℕ) → 0 < I → idle k I (subℕ o k) s j ≡ subℕ (owedAt I s o (s + j)) k
-unfolding idle owedAt
-idle-biased k I o s zero h = let z : o ≡ o + ((s + 0) / I - s / I) = rw add-zero (omega arith) in ap (λ (n : ℕ). subℕ n k) z
-idle-biased k I o s (suc j) h =
-    rw (idle-biased k I o s j h, add-suc) (cycle-biased k I false (suc (s + j)) (owedAt I s o (s + j)) ∙ ap (λ (n : ℕ). subℕ n k) (owed-more I s o j h))
+  owed-by : (s o j : ℕ) → owedBy s o (s + j) + due I (suc (s + j)) - 0 ≡ owedBy s o (suc (s + j))
+  unfolding owedBy
+  owed-by s o j = omega (arith, by .next (s + j), rise s j)
 
--- the first cycles at which 19 and 20 fail
-unfoldable pub next19 : Terms → (I s o : ℕ) → ℕ
-next19 k I s o = (k .credit + k .limit + 1 + s / I - o) * I
+  idle-by : (k o s j : ℕ) → idle k I (subℕ o k) s j ≡ subℕ (owedBy s o (s + j)) k
+  unfolding idle owedBy
+  idle-by k o s zero = let z : o ≡ o + (by .upTo (s + 0) - by .upTo s) = rw add-zero (omega arith) in ap (λ (n : ℕ). subℕ n k) z
+  idle-by k o s (suc j) =
+      rw (idle-by k o s j, add-suc) (cycle-biased k I false (suc (s + j)) (owedBy s o (s + j)) ∙ ap (λ (n : ℕ). subℕ n k) (owed-by s o j))
 
+-- the first cycle at which 20 fails, and the first after cycle s
 unfoldable pub next20 : Terms → (I last : ℕ) → ℕ
 next20 k I last = last + k .gap * I + 1
+
+unfoldable pub after20 : Terms → (I s last : ℕ) → ℕ
+after20 k I s last = max (suc s) (next20 k I last)
+
+pub after-is : (k : Terms) (I s last : ℕ) → s - last ≤ k .gap * I → after20 k I s last ≡ next20 k I last
+unfolding after20 next20
+after-is k I s last h = omega arith
 
 -- of the two, the one that comes first below n; 19 where they are one
 unfoldable pub firstNext : Terms → (x y n : ℕ) → Option (ℕ × ℕ)
@@ -94,73 +103,94 @@ first-step k x y n = ⊎-elim early late (le-cases x y)
         go (here h a b c) = rw (a, b, c, lt-leb x n (omega (arith, p .0))) (ap (fails (k .gapRule)) h)
         go (behind h a b) = rw (a, b)
 
-module _ (k : Terms) (I s o last : ℕ) (positive : 0 < I) (le : o ≤ k .credit + k .limit) (gap : s - last ≤ k .gap * I) where
-  div-up : (t : ℕ) → s ≤ t → s / I ≤ t / I
-  div-up t h = let z : s + (t - s) ≡ t = omega arith in subst (λ (u : ℕ). s / I ≤ u / I) z (div-rise I s (t - s) positive)
+module _ (k : Terms) (I : ℕ) (by : Counts (due I)) (s o last : ℕ) (le : o ≤ k .credit + k .limit) where
+  -- the first cycle at which 19 fails
+  unfoldable nextBy : ℕ
+  nextBy = by .reach (k .credit + k .limit + 1 + by .upTo s - o)
 
-  limit-at : (t : ℕ) → s ≤ t → leb (owedAt I s o t) (k .credit + k .limit) ≡ leb (suc t) (next19 k I s o)
-  unfolding owedAt next19
+  limit-at : (t : ℕ) → s ≤ t → leb (owedBy I by s o t) (k .credit + k .limit) ≡ leb (suc t) nextBy
+  unfolding owedBy nextBy
   limit-at t h = ⊎-elim
-      (λ (q : (suc t ≤ (k .credit + k .limit + 1 + s / I - o) * I) × (leb (suc t) ((k .credit + k .limit + 1 + s / I - o) * I) ≡ true)).
-      le-leb (o + (t / I - s / I)) (k .credit + k .limit) (under (q .0)) ∙ sym (q .1))
-      (λ (q : ((k .credit + k .limit + 1 + s / I - o) * I < suc t) × (leb (suc t) ((k .credit + k .limit + 1 + s / I - o) * I) ≡ false)).
-      let r : k .credit + k .limit + 1 + s / I - o ≤ t / I = le-div-iff-mul-le positive .1 (omega (arith, q .0)) in
-      lt-leb (o + (t / I - s / I)) (k .credit + k .limit) (omega (arith, div-up t h)) ∙ sym (q .1))
-      (le-cases (suc t) ((k .credit + k .limit + 1 + s / I - o) * I))
+      (λ (q : (by .reach (k .credit + k .limit + 1 + by .upTo s - o) ≤ t) × (leb (by .reach (k .credit + k .limit + 1 + by .upTo s - o)) t ≡ true)).
+      let r : k .credit + k .limit + 1 + by .upTo s - o ≤ by .upTo t = by .reached _ t .0 (q .0) in
+      lt-leb (o + (by .upTo t - by .upTo s)) (k .credit + k .limit) (omega (arith, rise-to I by s t h)) ∙ sym (lt-leb (suc t) _ (omega (arith, q .0))))
+      (λ (q : (t < by .reach (k .credit + k .limit + 1 + by .upTo s - o)) × (leb (by .reach (k .credit + k .limit + 1 + by .upTo s - o)) t ≡ false)).
+      le-leb (o + (by .upTo t - by .upTo s)) (k .credit + k .limit) (under (q .0)) ∙ sym (le-leb (suc t) _ (q .0)))
+      (le-cases (by .reach (k .credit + k .limit + 1 + by .upTo s - o)) t)
     where
-      under : suc t ≤ (k .credit + k .limit + 1 + s / I - o) * I → o + (t / I - s / I) ≤ k .credit + k .limit
+      under : t < by .reach (k .credit + k .limit + 1 + by .upTo s - o) → o + (by .upTo t - by .upTo s) ≤ k .credit + k .limit
       under h′ = ⊎-elim
-          (λ (q : (k .credit + k .limit + 1 + s / I - o ≤ t / I) × (leb (k .credit + k .limit + 1 + s / I - o) (t / I) ≡ true)).
-          let r : (k .credit + k .limit + 1 + s / I - o) * I ≤ t = le-div-iff-mul-le positive .0 (q .0) in absurd (clash r))
-          (λ (q : (t / I < k .credit + k .limit + 1 + s / I - o) × (leb (k .credit + k .limit + 1 + s / I - o) (t / I) ≡ false)). omega (arith, div-up t h))
-          (le-cases (k .credit + k .limit + 1 + s / I - o) (t / I))
+          (λ (q : (k .credit + k .limit + 1 + by .upTo s - o ≤ by .upTo t) × (leb (k .credit + k .limit + 1 + by .upTo s - o) (by .upTo t) ≡ true)).
+          absurd (clash (by .reached _ t .1 (q .0))))
+          (λ (q : (by .upTo t < k .credit + k .limit + 1 + by .upTo s - o) × (leb (k .credit + k .limit + 1 + by .upTo s - o) (by .upTo t) ≡ false)).
+          omega (arith, rise-to I by s t h))
+          (le-cases (k .credit + k .limit + 1 + by .upTo s - o) (by .upTo t))
         where
-          clash : (k .credit + k .limit + 1 + s / I - o) * I ≤ t → ⊥
+          clash : by .reach (k .credit + k .limit + 1 + by .upTo s - o) ≤ t → ⊥
           clash r = omega arith
 
-  gap-at : (t : ℕ) → leb (t - last) (k .gap * I) ≡ leb (suc t) (next20 k I last)
-  unfolding next20
-  gap-at t = ⊎-elim
-      (λ (q : (t - last ≤ k .gap * I) × (leb (t - last) (k .gap * I) ≡ true)). q .1 ∙ sym (le-leb (suc t) (last + k .gap * I + 1) (omega arith)))
-      (λ (q : (k .gap * I < t - last) × (leb (t - last) (k .gap * I) ≡ false)). q .1 ∙ sym (lt-leb (suc t) (last + k .gap * I + 1) (omega arith)))
+  gap-at : (t : ℕ) → s < t → leb (t - last) (k .gap * I) ≡ leb (suc t) (after20 k I s last)
+  unfolding after20 next20
+  gap-at t h = ⊎-elim
+      (λ (q : (t - last ≤ k .gap * I) × (leb (t - last) (k .gap * I) ≡ true)). q .1 ∙ sym (le-leb (suc t) (max (suc s) (last + k .gap * I + 1)) (omega arith)))
+      (λ (q : (k .gap * I < t - last) × (leb (t - last) (k .gap * I) ≡ false)). q .1 ∙ sym (lt-leb (suc t) (max (suc s) (last + k .gap * I + 1)) (omega arith)))
       (le-cases (t - last) (k .gap * I))
 
-  owing-at : (t : ℕ) → s ≤ t → owing k I (owedAt I s o t) last t ≡ overdue k (next19 k I s o) (next20 k I last) t
+  owing-at : (t : ℕ) → s < t → owing k I (owedBy I by s o t) last t ≡ overdue k nextBy (after20 k I s last) t
   unfolding owing overdue
-  owing-at t h = rw (limit-at t h, gap-at t) (go (place t (next19 k I s o)) (place t (next20 k I last)))
+  owing-at t h = rw (limit-at t (le-of-lt h), gap-at t h) (go (place t nextBy) (place t (after20 k I s last)))
     where
-      x : ℕ
-      x = next19 k I s o
-
-      y : ℕ
-      y = next20 k I last
-
-      inner : Place t (next20 k I last) → cond (leb (suc t) (next20 k I last)) none (fails (k .gapRule) t) ≡ cond (leb (next20 k I last) t) (fails (k .gapRule) t) none
+      inner : Place t (after20 k I s last) → cond (leb (suc t) (after20 k I s last)) none (fails (k .gapRule) t) ≡ cond (leb (after20 k I s last) t) (fails (k .gapRule) t) none
       inner (ahead h a b c) = rw (b, c)
       inner (here h a b c) = rw (b, c)
-      inner (behind h a b) = rw (b, le-leb (next20 k I last) t (le-of-lt h))
+      inner (behind h a b) = rw (b, le-leb (after20 k I s last) t (le-of-lt h))
 
-      go : Place t (next19 k I s o) → Place t (next20 k I last) →
-          cond (leb (suc t) (next19 k I s o)) (cond (leb (suc t) (next20 k I last)) none (fails (k .gapRule) t)) (fails (k .limitRule) t)
-          ≡ cond (leb (next19 k I s o) t) (fails (k .limitRule) t) (cond (leb (next20 k I last) t) (fails (k .gapRule) t) none)
+      go : Place t nextBy → Place t (after20 k I s last) →
+          cond (leb (suc t) nextBy) (cond (leb (suc t) (after20 k I s last)) none (fails (k .gapRule) t)) (fails (k .limitRule) t)
+          ≡ cond (leb nextBy t) (fails (k .limitRule) t) (cond (leb (after20 k I s last) t) (fails (k .gapRule) t) none)
       go (ahead h a b c) q = rw (b, c) (inner q)
       go (here h a b c) q = rw (b, c)
-      go (behind h a b) q = rw (b, le-leb (next19 k I s o) t (le-of-lt h))
+      go (behind h a b) q = rw (b, le-leb nextBy t (le-of-lt h))
 
-  starts : suc s ≤ min (next19 k I s o) (next20 k I last)
-  unfolding next19 next20
-  starts =
-      let f : (1 + s / I) * I ≤ (k .credit + k .limit + 1 + s / I - o) * I = mul-le-mul-right I (omega arith) in
-      let g : s < s / I * I + I = lt-div-mul-add positive in
-      omega arith
+  starts : suc s ≤ min nextBy (after20 k I s last)
+  unfolding nextBy after20
+  starts = ⊎-elim
+      (λ (q : (by .reach (k .credit + k .limit + 1 + by .upTo s - o) ≤ s) × (leb (by .reach (k .credit + k .limit + 1 + by .upTo s - o)) s ≡ true)).
+      absurd (clash (by .reached _ s .0 (q .0))))
+      (λ (q : (s < by .reach (k .credit + k .limit + 1 + by .upTo s - o)) × (leb (by .reach (k .credit + k .limit + 1 + by .upTo s - o)) s ≡ false)). omega arith)
+      (le-cases (by .reach (k .credit + k .limit + 1 + by .upTo s - o)) s)
+    where
+      clash : k .credit + k .limit + 1 + by .upTo s - o ≤ by .upTo s → ⊥
+      clash r = omega arith
 
   -- the first failing cycle of idle time
-  pub idle-closed : (j : ℕ) → firstIdle k I (subℕ o (k .credit)) last s j ≡ firstNext k (next19 k I s o) (next20 k I last) (suc (s + j))
+  closed-by : (j : ℕ) → firstIdle k I (subℕ o (k .credit)) last s j ≡ firstNext k nextBy (after20 k I s last) (suc (s + j))
   unfolding firstIdle
-  idle-closed zero = sym (unfold firstNext in rw (add-zero, le-leb (suc s) (min (next19 k I s o) (next20 k I last)) starts))
-  idle-closed (suc j) =
-      rw (idle-closed j, idle-biased (k .credit) I o s (suc j) positive, failing-biased k I (owedAt I s o (s + suc j)) last (s + suc j), owing-at (s + suc j) (omega arith), add-suc)
-      (first-step k (next19 k I s o) (next20 k I last) (suc (s + j)))
+  closed-by zero = sym (unfold firstNext in rw (add-zero, le-leb (suc s) (min nextBy (after20 k I s last)) starts))
+  closed-by (suc j) =
+      rw (closed-by j, idle-by I by (k .credit) o s (suc j), failing-biased k I (owedBy I by s o (s + suc j)) last (s + suc j), owing-at (s + suc j) (omega arith), add-suc)
+      (first-step k nextBy (after20 k I s last) (suc (s + j)))
+
+-- ---- by the multiples of I
+unfoldable pub owedAt : (I s o t : ℕ) → ℕ
+owedAt I s o t = o + (t / I - s / I)
+
+unfoldable pub next19 : Terms → (I s o : ℕ) → ℕ
+next19 k I s o = (k .credit + k .limit + 1 + s / I - o) * I
+
+module _ (I : ℕ) (positive : 0 < I) where
+  pub owed-more : (s o j : ℕ) → owedAt I s o (s + j) + due I (suc (s + j)) - 0 ≡ owedAt I s o (suc (s + j))
+  unfolding owedAt owedBy multiples
+  owed-more s o j = owed-by I (multiples I positive) s o j
+
+  pub idle-biased : (k o s j : ℕ) → idle k I (subℕ o k) s j ≡ subℕ (owedAt I s o (s + j)) k
+  unfolding owedAt owedBy multiples
+  idle-biased k o s j = idle-by I (multiples I positive) k o s j
+
+  pub idle-closed : (k : Terms) (s o last : ℕ) → o ≤ k .credit + k .limit → (j : ℕ) →
+      firstIdle k I (subℕ o (k .credit)) last s j ≡ firstNext k (next19 k I s o) (after20 k I s last) (suc (s + j))
+  unfolding next19 nextBy multiples
+  idle-closed k s o last le j = closed-by k I (multiples I positive) s o last le j
 
 -- ---- a list of counted refreshes, none of which comes after cycle s
 pub not-one : (s t : ℕ) (cs : List ℕ) → Less (suc s) cs → s < t → isOneOf cs t ≡ false
