@@ -67,7 +67,7 @@ bottom (suc k) =
     let e : suc k - 1 ≡ k = omega arith in
     rw (sub-below 0 (suc k) (omega arith), e) (le-ltb k k (omega arith))
 
-take-biased : (k o : ℕ) → takeOne k (subℕ o k) ≡ subℕ (o - 1) k
+pub take-biased : (k o : ℕ) → takeOne k (subℕ o k) ≡ subℕ (o - 1) k
 unfolding takeOne
 take-biased k zero = rw (bottom k)
 take-biased k (suc o) =

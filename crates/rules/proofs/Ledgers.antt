@@ -10,15 +10,39 @@ use native.Mathlib.Omega.{arith}
 use lib.Dec.{ltb}
 use borrow.Author.Tests.{le-leb, eq-eqb}
 use Rattle.rules.specs.Lists.{isOneOf}
-use Rattle.rules.specs.Folds.{orElse}
-use Rattle.rules.specs.Account.{lpddr3, takeOne, cycle, ledgerBefore, ledgerAfter, lastCounted, firstFailing, firstIdle}
-use Rattle.rules.specs.Lent.{Ledger, ledgerTo, refreshedAt, failingTo}
+use Rattle.rules.specs.Card.{Card}
+use Rattle.rules.specs.Units.{interval}
+use Rattle.rules.specs.Folds.{orElse, firstOf}
+use Rattle.rules.specs.Checks.{unless, named}
+use Rattle.rules.specs.Account.{lpddr3, takeOne, cycle, ledgerBefore, ledgerAfter, lastCounted, firstFailing, idle, firstIdle}
+use Rattle.rules.specs.Lent.{Ledger, ledgerTo, refreshedAt, failingTo, ledgerGood, moveRefusal, moved}
 use Rattle.rules.proofs.Tests.{lt-cases}
 use Rattle.rules.proofs.Biased.{ledger-biased}
-use Rattle.rules.proofs.Decided.{orElse-none}
+use Rattle.rules.proofs.Decided.{orElse-none, or-none}
 use Rattle.rules.proofs.Groups.{Less}
 use Rattle.rules.proofs.Idle.{last-idle, ledger-idle, first-idle}
 use Rattle.rules.proofs.Closed.{owed-ahead, not-yet}
+
+-- the cycle where a ledger stands changes nothing
+module _ (I : ℕ) (g : Ledger) where
+  pub none-failing-there : failingTo I g (suc (g .at)) ≡ none
+  unfolding failingTo firstIdle
+  none-failing-there = let z : suc (g .at) - suc (g .at) ≡ 0 = omega arith in rw z
+
+  pub none-failing-below : failingTo I g (g .at) ≡ none
+  unfolding failingTo firstIdle
+  none-failing-below = let z : g .at - suc (g .at) ≡ 0 = omega arith in rw z
+
+  pub as-it-was : ledgerTo I g (g .at) ≡ g
+  unfolding ledgerTo idle
+  as-it-was = let z : g .at - g .at ≡ 0 = omega arith in rw z
+
+pub stands-still : (card : Card) (g : Ledger) → (moveRefusal card g (g .at) ≡ unless (ledgerGood card g) 13) × (moved card g (g .at) ≡ g)
+unfolding moveRefusal moved firstOf orElse unless named
+stands-still card g = (
+  rw (le-leb (g .at) (g .at) (omega arith), none-failing-there (interval card) g) (or-none _),
+  as-it-was (interval card) g,
+)
 
 module _ (I : ℕ) where
   abbrev pub ledgerOf : List ℕ → ℕ → Ledger

@@ -32,6 +32,7 @@ use Rattle.rules.specs.Lent.{
   countedIn,
   ledgerTo,
   refreshedAt,
+  entered,
   ledgerWith,
   failingOf,
   failingTo,
@@ -148,7 +149,7 @@ module _ (card : Card) (past : Past) (c : ℕ) (good : cardGood card ≡ true) (
   -- ---- a step
   ledger-with : (e : Entry) → standsAt card past c ≤ e .stamp → Above past (e .stamp) →
       ledgerWith (standing card past c) e ≡ standingLedger card (taken card past e ∷ past) c
-  unfolding ledgerWith countedIn commandIn standing standingLedger countedStamps stampsWhere taken lastCycle
+  unfolding ledgerWith entered countedIn commandIn standing standingLedger countedStamps stampsWhere taken lastCycle
   ledger-with e h a = rw (view-same, ledger-moved (e .stamp) h, cycle-moved (e .stamp) h .0, cycle-moved (e .stamp) h .1) (go (isCounted (taken card past e .cmd) (counterAt past)))
     where
       cs : List ℕ

@@ -6,7 +6,7 @@ use mathlib.Core.Bool.{Bool, true, false, cond, _&&_}
 use mathlib.Core.List.{List, [], _∷_}
 use mathlib.Core.Option.{none}
 use native.Mathlib.Omega.{arith}
-use lib.Dec.{ltb, eqb}
+use lib.Dec.{leb, ltb, eqb}
 use lib.IntN.{negsuc, subℕ}
 use lib.Signed.{leZ}
 use borrow.Author.Tests.{le-leb, eqb-true, ne-eqb}
@@ -144,8 +144,12 @@ above-credit k o = ⊎-elim
     (λ (p : (suc k ≤ o) × (ltb o (suc k) ≡ false)). rw (p .1))
     (lt-cases o (suc k))
 
+pub owing-biased : (o : ℕ) → owingGood (subℕ o 8) ≡ leb o 16
+unfolding owingGood lpddr3
+owing-biased o = rw (above-credit 7 o, le-biased o 8 8)
+
 pub owing-good : (I : ℕ) (cs : List ℕ) (t : ℕ) → failingAt lpddr3 I cs t ≡ none → owingGood (ledgerAfter (lpddr3 .credit) I cs t) ≡ true
-unfolding owingGood ledgerAfter lpddr3
+unfolding ledgerAfter lpddr3
 owing-good I cs t h =
-    rw (ledger-biased 8 I cs (suc t), above-credit 7 (owed 8 I cs (suc t)), le-biased (owed 8 I cs (suc t)) 8 8)
+    rw (ledger-biased 8 I cs (suc t), owing-biased (owed 8 I cs (suc t)))
     (le-leb (owed 8 I cs (suc t)) 16 (within-limit lpddr3 I cs t (paid-iff lpddr3 I cs t .0 h .limit)))

@@ -150,8 +150,12 @@ unfoldable pub refreshedAt : Bool → Ledger → Ledger
 refreshedAt true g = record { at = g .at; owing = takeOne (lpddr3 .credit) (g .owing); refreshed = g .at }
 refreshedAt false g = g
 
+-- an entry's own cycle
+unfoldable pub entered : (counted : Bool) → Card → Ledger → ℕ → Ledger
+entered counted card g t = refreshedAt counted (ledgerTo (interval card) g t)
+
 unfoldable pub ledgerWith : Lent → Entry → Ledger
-ledgerWith l e = refreshedAt (countedIn l e) (ledgerTo (interval (l .card)) (l .ledger) (e .stamp))
+ledgerWith l e = entered (countedIn l e) (l .card) (l .ledger) (e .stamp)
 
 -- 19 and 20 after the cycle where the ledger stands
 unfoldable pub failingOf : (I : ℕ) → Ledger → Option (ℕ × ℕ)
@@ -217,6 +221,16 @@ moveRefusal card g c =
 
 unfoldable pub moved : Card → Ledger → ℕ → Ledger
 moved card g c = ledgerTo (interval card) g c
+
+-- and taken through an entry's own cycle t: 13, 5, 11 below it, 11 at it
+unfoldable pub enterRefusal : (counted : Bool) → Card → Ledger → ℕ → Option Refusal
+enterRefusal counted card g t =
+    firstOf (
+    unless (ledgerGood card g) 13 ∷
+    unless (leb (g .at) t) 5 ∷
+    named 11 (failingTo (interval card) g t) ∷
+    named 11 (failingOf (interval card) (entered counted card g t)) ∷ []
+    )
 
 unfoldable pub withLedger : Lent → Ledger → Lent
 withLedger l g = record {

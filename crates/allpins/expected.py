@@ -1,0 +1,119 @@
+#!/usr/bin/env python3
+# What allpins is to write, from document 01's list "Commands on the pins", pin by pin:
+#   python3 crates/allpins/expected.py > crates/allpins/stdout
+
+NAMES = ["CA%dr" % i for i in range(10)] + ["CA%df" % i for i in range(10)] + ["CS_n", "CKE", "zero 22", "zero 23"]
+NUMBERS = {"NOP": 0, "MRW": 1, "MRR": 2, "REFpb": 3, "REFab": 4, "ACT": 5, "RD": 6, "WR": 7, "PRE": 8, "PREA": 9, "reserved": 10}
+LISTED = {1, 2, 3, 11, 16, 17}
+
+# for each kind its levels from CA0r on, and the pins of each of its numbers from bit 0 up; a bit that has no pin is None
+MA = ["CA%dr" % i for i in range(4, 10)] + ["CA0f", "CA1f"]
+OP = ["CA%df" % i for i in range(2, 10)]
+BA = ["CA%dr" % i for i in range(7, 10)]
+ROW = ["CA%df" % i for i in range(0, 8)] + ["CA%dr" % i for i in range(2, 7)] + ["CA8f", "CA9f"]
+COLUMN = [None, "CA5r", "CA6r"] + ["CA%df" % i for i in range(1, 10)]
+KINDS = [
+    ("MRW", "LLLL", {"ma": MA, "op": OP}),
+    ("MRR", "LLLH", {"ma": MA}),
+    ("REFpb", "LLHL", {}),
+    ("REFab", "LLHH", {}),
+    ("ACT", "LH", {"bank": BA, "row": ROW}),
+    ("WR", "HLL", {"bank": BA, "column": COLUMN, "ap": ["CA0f"]}),
+    ("RD", "HLH", {"bank": BA, "column": COLUMN, "ap": ["CA0f"]}),
+    ("PRE", "HHLHL", {"bank": BA}),
+    ("PREA", "HHLHH", {}),
+    ("reserved", "HHLL", {}),
+    ("NOP", "HHH", {}),
+]
+
+def levels(pins):
+    return {name: pins >> i & 1 for i, name in enumerate(NAMES)}
+
+def kind_at(on):
+    for kind, level, places in KINDS:
+        if all(on["CA%dr" % i] == "LH".index(l) for i, l in enumerate(level)):
+            return kind, places
+
+def decode(pins):
+    """A command as (kind, numbers), or the refusal 6 or 7."""
+    on = levels(pins)
+    if on["CKE"] != 1 or on["zero 22"] or on["zero 23"] or pins >> 24:
+        return 6
+    if on["CS_n"]:
+        return "NOP", {}
+    kind, places = kind_at(on)
+    if kind == "reserved":
+        return 7
+    numbers = {n: sum(on[pin] << b for b, pin in enumerate(at) if pin) for n, at in places.items()}
+    if kind == "MRW" and numbers["ma"] not in LISTED:
+        return 7
+    return kind, numbers
+
+def pins_of(kind, numbers):
+    if kind == "NOP":
+        return 0x300000
+    on = dict.fromkeys(NAMES, 0)
+    on["CKE"] = 1
+    for name, level, places in KINDS:
+        if name == kind:
+            for i, l in enumerate(level):
+                on["CA%dr" % i] = "LH".index(l)
+            for n, at in places.items():
+                for b, pin in enumerate(at):
+                    if pin:
+                        on[pin] = numbers[n] >> b & 1
+    return sum(on[name] << i for i, name in enumerate(NAMES))
+
+def unfit(kind, n):
+    return (n.get("bank", 0) > 7 or n.get("row", 0) > 32767 or n.get("column", 0) % 2 == 1 or n.get("column", 0) > 4095
+            or kind == "MRW" and n["ma"] not in LISTED)
+
+def write(stamp, room, kind, numbers):
+    buffer = [165] * 12
+    if unfit(kind, numbers):
+        return 14, buffer
+    if room < 10:
+        return 15, buffer
+    field = bytes([32]) + (7).to_bytes(2, "big") + stamp.to_bytes(4, "big") + pins_of(kind, numbers).to_bytes(3, "big")
+    buffer[:10] = field
+    return 0, buffer
+
+def mix(h, x):
+    return (h * 1000003 + x) % 2**32
+
+def put(h, stamp, room, kind, numbers):
+    answer, buffer = write(stamp, room, kind, numbers)
+    for x in [answer] + buffer:
+        h = mix(h, x)
+    return h
+
+def packed(kind, n):
+    small = n.get("bank", n.get("ma", 0))
+    large = n.get("row", n.get("column", n.get("op", 0)))
+    return (NUMBERS[kind] + 5 * n.get("ap", 0)) * 2**24 + small * 2**16 + large
+
+def decoded(h, pins):
+    d = decode(pins)
+    if d in (6, 7):
+        return mix(h, d)
+    return put(mix(h, packed(*d)), pins % 2**20 * 4093, 12, *d)
+
+def line(rising):
+    h = 0
+    for f in range(1024):
+        h = decoded(h, 0x200000 + f * 1024 + rising)
+    ca = (1023 - rising) * 1024 + rising
+    for high in [0x300000, 0, 0x100000, 0x600000, 0xA00000, 0x1200000]:
+        h = decoded(h, high + ca)
+    n, room = rising, rising % 13
+    access = {"bank": n % 16, "column": n * 7, "ap": int(n % 3 == 0)}
+    for kind, numbers in [
+        ("ACT", {"bank": n % 16, "row": n * 61}), ("RD", access), ("WR", access), ("PRE", {"bank": n % 256}),
+        ("MRR", {"ma": n % 256}), ("MRW", {"ma": n % 256, "op": n // 4}),
+    ]:
+        h = put(h, n, room, kind, numbers)
+    return "%d %d" % (NUMBERS[kind_at(levels(rising))[0]], h)
+
+if __name__ == "__main__":
+    for r in range(1024):
+        print(line(r))

@@ -1,0 +1,42 @@
+-- The fourteen timings, by their place in the card's two columns.
+use Prim.Native.Nat.{ℕ, zero, suc, _+_, _-_, _<_}
+use mathlib.Core.Path.{_≡_, refl, _∙_}
+use mathlib.Core.Bool.{Bool, _&&_}
+use mathlib.Core.List.{List, [], _∷_}
+use native.Mathlib.Omega.{arith}
+use native.Mathlib.Numerals.{add-one}
+use lib.ListN.{length, getD, set}
+use lib.Seq.{getD-set-same, getD-set-other}
+use borrow.Author.Count.{below-more}
+use Rattle.rules.specs.Lists.{all}
+use Rattle.rules.specs.Card.{Timing}
+use Rattle.rules.specs.Units.{n}
+use Rattle.rules.specs.Ranges.{timings}
+use Rattle.card.specs.Values.{clk, timingIn, cardOf, Counted}
+use Rattle.card.specs.declared.Card.{Card}
+use Rattle.card.specs.declared.Clocks.{Clocks}
+
+-- k timings from place i on
+unfoldable pub columns : Card → ℕ → ℕ → List Timing
+columns card i zero = []
+columns card i (suc k) = timingIn card i ∷ columns card (suc i) k
+
+pub all-columns : (card : Card) → timings (cardOf card) ≡ columns card 0 14
+unfolding columns timings cardOf
+all-columns card = refl
+
+-- a test of the timings from place i on
+pub all-from : (p : Timing → Bool) (card : Card) (i : ℕ) → i < 14
+    → all p (columns card i (14 - i)) ≡ (p (timingIn card i) && all p (columns card (i + 1) (14 - (i + 1))))
+unfolding columns all
+all-from p card i h =
+    let e : 14 - i ≡ suc (14 - (i + 1)) = omega arith in
+    rw (e, add-one)
+
+pub counted-more : (card : Card) (i : ℕ) (l : List Clocks) (v : Clocks)
+    → i < length l → Counted card i l → v ≡ clk (n (cardOf card) (timingIn card i)) → Counted card (i + 1) (set l i v)
+unfolding Counted
+counted-more card i l v h before e =
+    below-more (λ k. getD (set l i v) k (clk 0) ≡ clk (n (cardOf card) (timingIn card k))) i
+    (λ k lt. getD-set-other l i k v (clk 0) (omega arith) ∙ before k lt)
+    (getD-set-same l i v (clk 0) h ∙ e)

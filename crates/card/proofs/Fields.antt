@@ -1,0 +1,173 @@
+-- The card that some fields of a file make: none make the blank card, and one more field makes what reading its value gives.
+use Prim.Native.Nat.{ℕ, _+_, _-_, _≤_, _<_}
+use mathlib.Core.Path.{_≡_, refl, ap, sym, _∙_}
+use mathlib.Core.Bool.{Bool, true, false, cond}
+use mathlib.Core.List.{List, [], _∷_}
+use mathlib.Core.Logic.{⊎-elim}
+use native.Mathlib.Omega.{arith}
+use lib.Dec.{leb, eqb, lit<}
+use lib.ListN.{length, getD, set, length-set, List·getD-map}
+use lib.Seq.{getD-set-same, getD-set-other}
+use borrow.Author.Tests.{ne-eqb, eqb-true}
+use Rattle.rules.specs.Card as paper
+use Rattle.rules.specs.Ranges.{timings, within}
+use Rattle.rules.specs.Form as form
+use Rattle.rules.proofs.Tests.{le-cases, eq-cases}
+use Rattle.card.specs.Values.{timingIn, cardOf}
+use Rattle.card.specs.Reading.{good, put, answer, taken, readOf, blankCard}
+use Rattle.card.specs.declared.Card.{Card}
+use Rattle.card.proofs.Computed.{upTo, up-to}
+
+-- a card's four numbers and its fourteen timings, by their place
+built : (period mr2 groups trefi : ℕ) → (ℕ → paper.Timing) → paper.Card
+built p m g r c = record {
+  period = p;
+  mr2 = m;
+  groups = g;
+  trefi = r;
+  trcd = c 0;
+  trppb = c 1;
+  trpab = c 2;
+  tras = c 3;
+  trrd = c 4;
+  tfaw = c 5;
+  trtp = c 6;
+  twr = c 7;
+  twtr = c 8;
+  tdqsck = c 9;
+  trfcab = c 10;
+  trfcpb = c 11;
+  tmrr = c 12;
+  tmrw = c 13;
+}
+
+card-built : (card : Card) → cardOf card ≡ built (card .period) (card .mr2) (card .groups) (card .trefi) (timingIn card)
+unfolding cardOf built
+card-built card = refl
+
+fields-built : (fs : List form.Field)
+    → form.cardOf fs ≡ built (form.numberAt 1 fs) (form.numberAt 2 fs) (form.numberAt 3 fs) (form.numberAt 4 fs) (λ k. form.timingAt (k + 5) fs)
+unfolding form.cardOf built
+fields-built fs = refl
+
+places : List ℕ
+places = 0 ∷ 1 ∷ 2 ∷ 3 ∷ 4 ∷ 5 ∷ 6 ∷ 7 ∷ 8 ∷ 9 ∷ 10 ∷ 11 ∷ 12 ∷ 13 ∷ []
+
+place-is : (k : ℕ) → k < 14 → getD places k 0 ≡ k
+unfolding places upTo
+place-is k h = eqb-true (getD places k 0) k (up-to 14 (λ j. eqb (getD places j 0) j) refl k h)
+
+same-built : {p q m n g h r s : ℕ} {c d : ℕ → paper.Timing}
+    → p ≡ q → m ≡ n → g ≡ h → r ≡ s → ((k : ℕ) → k < 14 → c k ≡ d k) → built p m g r c ≡ built q n h s d
+unfolding built
+same-built a b e f at = λ i. record {
+  period = a i;
+  mr2 = b i;
+  groups = e i;
+  trefi = f i;
+  trcd = at 0 (lit< tt) i;
+  trppb = at 1 (lit< tt) i;
+  trpab = at 2 (lit< tt) i;
+  tras = at 3 (lit< tt) i;
+  trrd = at 4 (lit< tt) i;
+  tfaw = at 5 (lit< tt) i;
+  trtp = at 6 (lit< tt) i;
+  twr = at 7 (lit< tt) i;
+  twtr = at 8 (lit< tt) i;
+  tdqsck = at 9 (lit< tt) i;
+  trfcab = at 10 (lit< tt) i;
+  trfcpb = at 11 (lit< tt) i;
+  tmrr = at 12 (lit< tt) i;
+  tmrw = at 13 (lit< tt) i;
+}
+
+at-place : (p m g r : ℕ) (c : ℕ → paper.Timing) (k : ℕ) → k < 14 → getD (timings (built p m g r c)) k (c 0) ≡ c k
+unfolding timings built places
+at-place p m g r c k h = List·getD-map c places k 0 ∙ ap c (place-is k h)
+
+-- the card reads as what these fields say, and its columns are whole, as those of every card in the code are
+pub record Holds (card : Card) (fs : List form.Field) : Type 0 where
+  pub reads : cardOf card ≡ form.cardOf fs
+  pub durations-length : length (card .durations) ≡ 14
+  pub floors-length : length (card .floors) ≡ 14
+
+held-timing : (card : Card) (fs : List form.Field) → Holds card fs → (k : ℕ) → k < 14 → timingIn card k ≡ form.timingAt (k + 5) fs
+unfolding cardOf form.cardOf built
+held-timing card fs h k lt =
+    sym (at-place (card .period) (card .mr2) (card .groups) (card .trefi) (timingIn card) k lt)
+    ∙ ap (λ (x : paper.Card). getD (timings x) k (x .trcd)) (h .reads)
+    ∙ at-place (form.numberAt 1 fs) (form.numberAt 2 fs) (form.numberAt 3 fs) (form.numberAt 4 fs) (λ j. form.timingAt (j + 5) fs) k lt
+
+-- the newest field with a tag is the one that counts
+newest : {A : Type 0} (read : List ℕ → A) (k : ℕ) (f : form.Field) (fs : List form.Field) (old : A) → old ≡ read (form.valueOf k fs)
+    → cond (eqb (f .tag) k) (read (f .value)) old ≡ read (form.valueOf k (f ∷ fs))
+unfolding form.valueOf
+newest read k f fs old e = go (eqb (f .tag) k)
+  where
+    go : (b : Bool) → cond b (read (f .value)) old ≡ read (cond b (f .value) (form.valueOf k fs))
+    go true = refl
+    go false = e
+
+put-timing : (card : Card) (t x : ℕ) (y : paper.Timing) (k : ℕ)
+    → k < length (card .durations) → k < length (card .floors) → timingIn (put card t x y) k ≡ cond (eqb t (k + 5)) y (timingIn card k)
+unfolding put timingIn
+put-timing card t x y k hd hf =
+    ⊎-elim (λ (p : (t ≤ 4) × (leb t 4 ≡ true)). rw (p .1, ne-eqb t (k + 5) (omega arith)))
+    (λ (p : (4 < t) × (leb t 4 ≡ false)).
+    ⊎-elim (λ (q : (t ≡ k + 5) × (eqb t (k + 5) ≡ true)).
+    let e : t - 5 ≡ k = omega arith in
+    rw (p .1, q .1, e, getD-set-same (card .durations) k (y .duration) 0 hd, getD-set-same (card .floors) k (y .floor) 0 hf))
+    (λ (q : (t ≡ k + 5 → ⊥) × (eqb t (k + 5) ≡ false)).
+    rw (p .1, q .1, getD-set-other (card .durations) (t - 5) k (y .duration) 0 (omega arith), getD-set-other (card .floors) (t - 5) k (y .floor) 0 (omega arith)))
+    (eq-cases t (k + 5)))
+    (le-cases t 4)
+
+put-length : (t k : ℕ) (l : List ℕ) (a : ℕ) → length (cond (leb t 4) l (set l k a)) ≡ length l
+put-length t k l a = go (leb t 4)
+  where
+    go : (b : Bool) → length (cond b l (set l k a)) ≡ length l
+    go true = refl
+    go false = length-set l k a
+
+pub holds-blank : Holds blankCard []
+unfolding blankCard cardOf timingIn form.cardOf form.numberAt form.timingAt form.valueOf form.timingOf form.number form.numberFrom
+holds-blank = record { reads = refl; durations-length = refl; floors-length = refl }
+
+pub holds-more : (card : Card) (fs : List form.Field) (f : form.Field) → Holds card fs
+    → Holds (put card (f .tag) (form.number (f .value)) (form.timingOf (f .value))) (f ∷ fs)
+unfolding form.numberAt form.timingAt put cardOf form.cardOf
+holds-more card fs f h =
+    let x = form.number (f .value) in
+    let y = form.timingOf (f .value) in
+    let t = f .tag in
+    record {
+      reads =
+          card-built (put card t x y)
+          ∙ same-built
+          (newest form.number 1 f fs (card .period) (ap (λ (z : paper.Card). z .period) (h .reads)))
+          (newest form.number 2 f fs (card .mr2) (ap (λ (z : paper.Card). z .mr2) (h .reads)))
+          (newest form.number 3 f fs (card .groups) (ap (λ (z : paper.Card). z .groups) (h .reads)))
+          (newest form.number 4 f fs (card .trefi) (ap (λ (z : paper.Card). z .trefi) (h .reads)))
+          (λ k lt.
+          let a = h .durations-length in
+          let b = h .floors-length in
+          put-timing card t x y k (omega arith) (omega arith)
+          ∙ newest form.timingOf (k + 5) f fs (timingIn card k) (held-timing card fs h k lt))
+          ∙ sym (fields-built (f ∷ fs));
+      durations-length = put-length t (t - 5) (card .durations) (y .duration) ∙ h .durations-length;
+      floors-length = put-length t (t - 5) (card .floors) (y .floor) ∙ h .floors-length;
+    }
+
+-- the test of a value's range is that of the field
+pub good-field : (card : Card) (fs : List form.Field) (f : form.Field) → Holds card fs
+    → good (card .period) (f .tag) (form.number (f .value)) (form.timingOf (f .value)) ≡ form.fieldGood fs f
+unfolding good form.fieldGood cardOf form.cardOf
+good-field card fs f h = rw (ap (λ (z : paper.Card). z .period) (h .reads))
+
+-- reading a field of a card's tag and of its length: in range or refused
+pub read-field : (card : Card) (fs : List form.Field) (f : form.Field) → Holds card fs
+    → within 1 18 (f .tag) ≡ true → form.lengthGood (f .tag) (length (f .value)) ≡ true
+    → readOf card (f .tag) (f .value)
+    ≡ cond (form.fieldGood fs f) (answer 0 (put card (f .tag) (form.number (f .value)) (form.timingOf (f .value)))) (answer 4 card)
+unfolding readOf taken
+read-field card fs f h tag size = rw (tag, size, good-field card fs f h)

@@ -1,0 +1,99 @@
+-- The promise of each public function determines its answer.
+use mathlib.Core.Path.{_≡_, refl, ap, sym, _∙_}
+use Rattle.rules.specs.Units as paper
+use Rattle.rules.proofs.Determined.{Promise, Determined, determined, fact-of}
+use Rattle.card.specs.Values.{clk, clocksOf}
+use Rattle.card.specs.declared.Delays.{Delays}
+use Rattle.card.proofs.ranges.in_range as in-range
+use Rattle.card.proofs.registers.latency_of as latency-of
+use Rattle.card.proofs.registers.may_write as may-write
+use Rattle.card.proofs.registers.mr2_good as mr2-good
+use Rattle.card.proofs.timings.delays_of as delays-of
+use Rattle.card.proofs.timings.interval as interval
+use Rattle.card.proofs.values.blank as blank
+use Rattle.card.proofs.values.length_good as length-good
+use Rattle.card.proofs.values.read_value as read-value
+
+abbrev in-range-says : Promise in-range.ended
+in-range-says w = in-range.clauses (w .𝓤) (w .H) (w .𝓖 .A) (w .𝓜 .mem) (w .𝓡 .run)
+
+pub in-range-determined : Determined in-range.ended in-range-says
+in-range-determined = determined in-range.ended in-range-says (λ κs a r e. fact-of _) (λ κs a r r′ ws ws′ p p′. (p ∙ sym p′, refl))
+
+abbrev mr2-good-says : Promise mr2-good.ended
+mr2-good-says w = mr2-good.clauses (w .𝓤) (w .H) (w .𝓖 .A) (w .𝓜 .mem) (w .𝓡 .run)
+
+pub mr2-good-determined : Determined mr2-good.ended mr2-good-says
+mr2-good-determined = determined mr2-good.ended mr2-good-says (λ κs a r e. fact-of _) (λ κs a r r′ ws ws′ p p′. (p ∙ sym p′, refl))
+
+abbrev may-write-says : Promise may-write.ended
+may-write-says w = may-write.clauses (w .𝓤) (w .H) (w .𝓖 .A) (w .𝓜 .mem) (w .𝓡 .run)
+
+pub may-write-determined : Determined may-write.ended may-write-says
+may-write-determined = determined may-write.ended may-write-says (λ κs a r e. fact-of _) (λ κs a r r′ ws ws′ p p′. (p ∙ sym p′, refl))
+
+abbrev latency-of-says : Promise latency-of.ended
+latency-of-says w = latency-of.clauses (w .𝓤) (w .H) (w .𝓖 .A) (w .𝓜 .mem) (w .𝓡 .run)
+
+pub latency-of-determined : Determined latency-of.ended latency-of-says
+latency-of-determined =
+    determined latency-of.ended latency-of-says (λ κs a r e. fact-of _)
+    (λ κs a r r′ ws ws′ p p′. (λ i. record { rl = (p .0 ∙ sym (p′ .0)) i; wl = (p .1 ∙ sym (p′ .1)) i }, refl))
+
+abbrev interval-says : Promise interval.ended
+interval-says w = interval.clauses (w .𝓤) (w .H) (w .𝓖 .A) (w .𝓜 .mem) (w .𝓡 .run)
+
+pub interval-determined : Determined interval.ended interval-says
+interval-determined = determined interval.ended interval-says (λ κs a r e. fact-of _) (λ κs a r r′ ws ws′ p p′. (p ∙ sym p′, refl))
+
+-- the delays with these numbers
+delaysIn : paper.Delays → Delays
+delaysIn d = record {
+  trcd = clk (d .trcd);
+  trppb = clk (d .trppb);
+  trpab = clk (d .trpab);
+  tras = clk (d .tras);
+  trc = clk (d .trc);
+  trrd = clk (d .trrd);
+  tfaw = clk (d .tfaw);
+  trtp = clk (d .trtp);
+  twr = clk (d .twr);
+  twtr = clk (d .twtr);
+  tdqsck = clk (d .tdqsck);
+  trfcab = clk (d .trfcab);
+  trfcpb = clk (d .trfcpb);
+  tmrr = clk (d .tmrr);
+  tmrw = clk (d .tmrw);
+}
+
+-- delays with the same numbers are one
+pub clocks-tell : (d e : Delays) → clocksOf d ≡ clocksOf e → d ≡ e
+unfolding clocksOf delaysIn
+clocks-tell d e q = ap delaysIn q
+
+abbrev delays-of-says : Promise delays-of.ended
+delays-of-says w = delays-of.clauses (w .𝓤) (w .H) (w .𝓖 .A) (w .𝓜 .mem) (w .𝓡 .run)
+
+pub delays-of-determined : Determined delays-of.ended delays-of-says
+delays-of-determined =
+    determined delays-of.ended delays-of-says (λ κs a r e. fact-of _) (λ κs a r r′ ws ws′ p p′. (clocks-tell r r′ (p ∙ sym p′), refl))
+
+abbrev blank-says : Promise blank.ended
+blank-says w = blank.clauses (w .𝓤) (w .H) (w .𝓖 .A) (w .𝓜 .mem) (w .𝓡 .run)
+
+pub blank-determined : Determined blank.ended blank-says
+blank-determined = determined blank.ended blank-says (λ κs a r e. fact-of _) (λ κs a r r′ ws ws′ p p′. (p ∙ sym p′, refl))
+
+abbrev length-good-says : Promise length-good.ended
+length-good-says w = length-good.clauses (w .𝓤) (w .H) (w .𝓖 .A) (w .𝓜 .mem) (w .𝓡 .run)
+
+pub length-good-determined : Determined length-good.ended length-good-says
+length-good-determined =
+    determined length-good.ended length-good-says (λ κs a r e. fact-of _) (λ κs a r r′ ws ws′ p p′. (p ∙ sym p′, refl))
+
+abbrev read-value-says : Promise read-value.ended
+read-value-says w = read-value.clauses (w .𝓤) (w .H) (w .𝓖 .A) (w .𝓜 .mem) (w .𝓡 .run)
+
+pub read-value-determined : Determined read-value.ended read-value-says
+read-value-determined =
+    determined read-value.ended read-value-says (λ κs a r e. fact-of _) (λ κs a r r′ ws ws′ p p′. (p ∙ sym p′, refl))

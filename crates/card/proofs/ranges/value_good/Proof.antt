@@ -1,0 +1,54 @@
+use mathlib.Core.Path.{_∙_}
+use native.Mathlib.Omega.{arith}
+use borrow.Author.Tests.{le-ltb, eq-eqb, ne-eqb}
+use borrow.Author.Needs.{needs}
+use Rattle.rules.specs.Registers.{mr2Good}
+use Rattle.rules.specs.Ranges.{periodGood, groupsGood, trefiGood}
+use Rattle.card.specs.Reading.{good}
+use Rattle.card.proofs.ranges.value_good.Statement.{statement}
+use Rattle.card.proofs.ranges.value_good.Tie as tie
+
+returns : tie.Need-returns
+unfolding good periodGood
+returns c = c .within .ensures ∙ rw (eq-eqb _ _ (c .before .if1 .taken))
+
+returns-2 : tie.Need-returns-2
+unfolding good mr2Good
+returns-2 c =
+    rw (ne-eqb _ _ (c .before .before .if1 .left), eq-eqb _ _ (c .before .if2 .taken), le-ltb (c .before .before .before .args .x) 256 (omega arith))
+
+returns-3 : tie.Need-returns-3
+unfolding good
+returns-3 c = c .mr2-good .ensures ∙ rw (ne-eqb _ _ (c .before .before .before .if1 .left), eq-eqb _ _ (c .before .before .if2 .taken))
+
+returns-4 : tie.Need-returns-4
+unfolding good groupsGood
+returns-4 c = c .within2 .ensures ∙ rw (c .before .if4 .taken)
+
+returns-5 : tie.Need-returns-5
+unfolding good trefiGood
+returns-5 c = c .within3 .ensures ∙ rw (c .before .if5 .taken)
+
+returns-6 : tie.Need-returns-6
+unfolding good
+returns-6 c =
+    let s = c .before in
+    c .timing-good .ensures
+    ∙ rw (ne-eqb _ _ (s .before .before .before .if1 .left), ne-eqb _ _ (s .before .before .if2 .left), ne-eqb _ _ (s .before .if4 .left), ne-eqb _ _ (s .if5 .left))
+
+pub value-good-spec : {M : Type 1} → statement M
+value-good-spec =
+    tie.close
+    (tie.spec
+    (λ c κs. search needs)
+    returns
+    returns-2
+    (λ c. search needs)
+    (λ c κs. search needs)
+    returns-3
+    (λ c κs. search needs)
+    returns-4
+    (λ c κs. search needs)
+    returns-5
+    (λ c κs. search needs)
+    returns-6)

@@ -1,0 +1,50 @@
+-- What the value of a card's field makes of a card: refusal 2 (tag), 3 (length), 4 (range), or the card with the value in it.
+use Prim.Native.Nat.{ℕ, _-_}
+use mathlib.Core.Bool.{Bool, cond, _||_}
+use mathlib.Core.List.{List}
+use lib.Dec.{leb, eqb}
+use lib.ListN.{length, set, replicate}
+use Rattle.rules.specs.Card as paper
+use Rattle.rules.specs.Registers.{mr2Good}
+use Rattle.rules.specs.Ranges.{within, periodGood, groupsGood, trefiGood, timingGood}
+use Rattle.rules.specs.Form.{number, timingOf, lengthGood}
+use Rattle.card.specs.declared.Card.{Card}
+use Rattle.card.specs.declared.Read.{Read}
+
+-- the listed length of a tag; 0 where there is no such tag
+unfoldable pub sizeOf : ℕ → ℕ
+sizeOf t =
+    cond (eqb t 1 || eqb t 4 || eqb t 33) 4
+    (cond (eqb t 2) 1 (cond (eqb t 3) 2 (cond (within 5 18 t) 5 (cond (eqb t 32) 7 0))))
+
+-- whether a value is in range: tags 1 to 4 are the number x, tags 5 to 18 the timing y
+unfoldable pub good : (period tag x : ℕ) → paper.Timing → Bool
+good p t x y =
+    cond (eqb t 1) (periodGood x)
+    (cond (eqb t 2) (mr2Good p x) (cond (eqb t 3) (groupsGood x) (cond (eqb t 4) (trefiGood p x) (timingGood y))))
+
+-- the card with the value of this tag in it
+unfoldable pub put : Card → (tag x : ℕ) → paper.Timing → Card
+put c t x y = record {
+  period = cond (eqb t 1) x (c .period);
+  mr2 = cond (eqb t 2) x (c .mr2);
+  groups = cond (eqb t 3) x (c .groups);
+  trefi = cond (eqb t 4) x (c .trefi);
+  durations = cond (leb t 4) (c .durations) (set (c .durations) (t - 5) (y .duration));
+  floors = cond (leb t 4) (c .floors) (set (c .floors) (t - 5) (y .floor));
+}
+
+abbrev pub answer : ℕ → Card → Read
+answer n c = record { refusal = n; card = c }
+
+unfoldable pub taken : Card → (tag x : ℕ) → paper.Timing → Read
+taken c t x y = cond (good (c .period) t x y) (answer 0 (put c t x y)) (answer 4 c)
+
+unfoldable pub readOf : Card → (tag : ℕ) → List ℕ → Read
+readOf c t v =
+    cond (within 1 18 t)
+    (cond (lengthGood t (length v)) (taken c t (number v) (timingOf v)) (answer 3 c))
+    (answer 2 c)
+
+unfoldable pub blankCard : Card
+blankCard = record { period = 0; mr2 = 0; groups = 0; trefi = 0; durations = replicate 14 0; floors = replicate 14 0 }

@@ -1,0 +1,20 @@
+-- The rows of the code's table, as the rules' rows have them.
+use Prim.Native.Nat.{ℕ}
+use mathlib.Core.Bool.{Bool, false}
+use lib.Dec.{leb}
+use Rattle.rules.specs.Bits.{bits}
+use Rattle.rules.specs.Registers as paper
+use Rattle.card.specs.declared.registers.Row.{Row}
+use Rattle.card.specs.declared.registers.Found.{Found}
+use Rattle.card.specs.declared.registers.Found.the-variants.{At, Nothing}
+
+unfoldable pub rowOf : paper.Latency → Row
+rowOf x = record { 0 = x .code; 1 = x .least; 2 = x .rl; 3 = x .wlA; 4 = x .wlB }
+
+-- the row that OP3-0 of this MR2 picks
+unfoldable pub foundAt : ℕ → Found
+foundAt v = paper.atCode (bits v 0 4) (λ x. At (rowOf x)) Nothing paper.latencies
+
+-- OP3-0 of this MR2 is a code whose least period does not exceed this one
+unfoldable pub codeGood : (period mr2 : ℕ) → Bool
+codeGood p v = paper.atCode (bits v 0 4) (λ x. leb (x .least) p) false paper.latencies

@@ -1,0 +1,60 @@
+// The device card by value: the ranges of its values, the latencies of MR2, its delays in clocks, and its fields read from bytes.
+mod ranges;
+mod registers;
+mod timings;
+mod units;
+mod values;
+
+pub use ranges::in_range;
+pub use registers::latency_of;
+pub use registers::may_write;
+pub use registers::mr2_good;
+pub use timings::delays_of;
+pub use timings::interval;
+pub use values::blank;
+pub use values::length_good;
+pub use values::read_value;
+
+pub struct Picoseconds(pub u64);
+
+pub struct Clocks(pub u64);
+
+// `durations` and `floors` are the two columns of tags 5 to 18: trcd, trppb, trpab, tras, trrd, tfaw, trtp, twr, twtr, tdqsck,
+// trfcab, trfcpb, tmrr, tmrw.
+pub struct Card {
+    pub period: u32,
+    pub mr2: u8,
+    pub groups: u16,
+    pub trefi: u32,
+    pub durations: [u32; 14],
+    pub floors: [u8; 14],
+}
+
+pub struct Delays {
+    pub trcd: Clocks,
+    pub trppb: Clocks,
+    pub trpab: Clocks,
+    pub tras: Clocks,
+    pub trc: Clocks,
+    pub trrd: Clocks,
+    pub tfaw: Clocks,
+    pub trtp: Clocks,
+    pub twr: Clocks,
+    pub twtr: Clocks,
+    pub tdqsck: Clocks,
+    pub trfcab: Clocks,
+    pub trfcpb: Clocks,
+    pub tmrr: Clocks,
+    pub tmrw: Clocks,
+}
+
+pub struct Latency {
+    pub rl: u8,
+    pub wl: u8,
+}
+
+// What the value of a card's field makes of a card: 0 and the card with the value in it, or a refusal's number and the card as it was.
+pub struct Read {
+    pub refusal: u8,
+    pub card: Card,
+}

@@ -1,0 +1,91 @@
+// The latencies that MR2 sets, and what MRW may write.
+ghost use mathlib.Core.Path.{_≡_};
+ghost use Rattle.rules.specs.Registers.{mr2Good, rlOf, wlOf, mayWrite};
+ghost use Rattle.card.specs.Rows.{foundAt, codeGood};
+use crate::Latency;
+
+// A row of the table: the code in MR2's OP3-0, the least period in ps that it may stand with, RL, and WL of set A and of set B.
+pub struct Row(u8, u32, u8, u8, u8);
+
+pub enum Found {
+    At(Row),
+    Nothing,
+}
+
+const ROWS: [Row; 9] = [
+    Row(0b0001, 6000, 3, 1, 1),
+    Row(0b0100, 2500, 6, 3, 3),
+    Row(0b0110, 1875, 8, 4, 4),
+    Row(0b0111, 1670, 9, 5, 5),
+    Row(0b1000, 1500, 10, 6, 8),
+    Row(0b1001, 1360, 11, 6, 9),
+    Row(0b1010, 1250, 12, 6, 9),
+    Row(0b1100, 1071, 14, 8, 11),
+    Row(0b1110, 938, 16, 8, 13),
+];
+
+// The row that OP3-0 of MR2 picks.
+fn find(mr2: u8) -> Found
+    ensures { λ r. ⌜ r ≡ foundAt mr2 ⌝ }
+{
+    let code = mr2 % 16;
+    let mut i: usize = 0;
+    while i < 9 {
+        let row = ROWS[i];
+        if row.0 == code {
+            return Found::At(row);
+        }
+        i += 1;
+    }
+    Found::Nothing
+}
+
+// Whether OP3-0 of MR2 is a code whose least period does not exceed the card's.
+fn code_good(period: u32, mr2: u8) -> bool
+    ensures { λ r. ⌜ r ≡ codeGood period mr2 ⌝ }
+{
+    match find(mr2) {
+        Found::At(row) => row.1 <= period,
+        Found::Nothing => false,
+    }
+}
+
+pub fn mr2_good(period: u32, value: u8) -> bool
+    ensures { λ r. ⌜ r ≡ mr2Good period value ⌝ }
+{
+    (value / 128 % 2 != 1) & (value / 32 % 2 != 1) & code_good(period, value)
+}
+
+// RL and WL by MR2, whose OP6 picks the set; 0 where no row has the code.
+pub fn latency_of(mr2: u8) -> Latency
+    ensures { λ r. ⌜ (r .rl ≡ rlOf mr2) × (r .wl ≡ wlOf mr2) ⌝ }
+{
+    match find(mr2) {
+        Found::At(row) => {
+            if mr2 / 64 % 2 == 1 {
+                Latency {
+                    rl: row.2,
+                    wl: row.4,
+                }
+            } else {
+                Latency {
+                    rl: row.2,
+                    wl: row.3,
+                }
+            }
+        }
+        Found::Nothing => Latency { rl: 0, wl: 0 },
+    }
+}
+
+pub fn may_write(period: u32, ma: u8, op: u8) -> bool
+    ensures { λ r. ⌜ r ≡ mayWrite period ma op ⌝ }
+{
+    if ma == 1 {
+        return op % 8 == 3;
+    }
+    if ma == 2 {
+        return mr2_good(period, op);
+    }
+    true
+}

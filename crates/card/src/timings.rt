@@ -1,0 +1,104 @@
+// The delays of a card in clocks: n(x), tRC, I.
+ghost use mathlib.Core.Path.{_≡_};
+ghost use Prim.Native.Nat.{_+_, _<_, _^_};
+ghost use Rattle.rules.specs.Units as paper;
+ghost use Rattle.card.specs.Values.{clk, cardOf, timingIn, clocksOf, Counted, Timed};
+use crate::Card;
+use crate::Clocks;
+use crate::Delays;
+use crate::Picoseconds;
+use crate::units::Timing;
+use crate::units::least_clocks;
+use crate::units::rounded_up;
+
+fn picoseconds(x: u32) -> Picoseconds
+    ensures { λ r. ⌜ (r .0 ≡ x) × (r .0 < 2 ^ 32) ⌝ }
+{
+    Picoseconds(x as u64)
+}
+
+fn clocks(x: u8) -> Clocks
+    ensures { λ r. ⌜ (r .0 ≡ x) × (r .0 < 256) ⌝ }
+{
+    Clocks(x as u64)
+}
+
+// The timing at this place of the two columns.
+fn timing(card: Card, i: usize) -> Timing
+    requires { ⌜ i < 14 ⌝ }
+    ensures { λ r. ⌜ Timed card i r ⌝ }
+{
+    Timing {
+        duration: picoseconds(card.durations[i]),
+        floor: clocks(card.floors[i]),
+    }
+}
+
+// n(x)
+fn timing_clocks(card: Card, i: usize) -> Clocks
+    requires { ⌜ i < 14 ⌝ }
+    ensures { λ r. ⌜ r ≡ clk (paper.n (cardOf card) (timingIn card i)) ⌝ }
+{
+    least_clocks(timing(card, i), picoseconds(card.period))
+}
+
+fn all_clocks(card: Card) -> [Clocks; 14]
+    ensures { λ r. ⌜ Counted card 14 r ⌝ }
+{
+    let mut out = [Clocks(0); 14];
+    let mut i: usize = 0;
+    while i < 14 {
+        out[i] = timing_clocks(card, i);
+        i += 1;
+    }
+    out
+}
+
+// tRC
+fn row_cycle(card: Card) -> Clocks
+    ensures { λ r. ⌜ r ≡ clk (paper.rowCycle (cardOf card)) ⌝ }
+{
+    let ras = timing(card, 3);
+    let rp = timing(card, 1);
+    let both = Timing {
+        duration: Picoseconds(ras.duration.0 + rp.duration.0),
+        floor: Clocks(ras.floor.0 + rp.floor.0),
+    };
+    least_clocks(both, picoseconds(card.period))
+}
+
+pub fn delays_of(card: Card) -> Delays
+    ensures { λ r. ⌜ clocksOf r ≡ paper.delaysOf (cardOf card) ⌝ }
+{
+    let n = all_clocks(card);
+    let trc = row_cycle(card);
+    Delays {
+        trcd: n[0],
+        trppb: n[1],
+        trpab: n[2],
+        tras: n[3],
+        trc: trc,
+        trrd: n[4],
+        tfaw: n[5],
+        trtp: n[6],
+        twr: n[7],
+        twtr: n[8],
+        tdqsck: n[9],
+        trfcab: n[10],
+        trfcpb: n[11],
+        tmrr: n[12],
+        tmrw: n[13],
+    }
+}
+
+// I, the whole periods within tREFI: one fewer than a picosecond more needs. 0 where the period is 0.
+pub fn interval(card: Card) -> u32
+    ensures { λ r. ⌜ r ≡ paper.interval (cardOf card) ⌝ }
+{
+    let trefi = picoseconds(card.trefi);
+    let over = rounded_up(Picoseconds(trefi.0 + 1), picoseconds(card.period));
+    if over.0 == 0 {
+        return 0;
+    }
+    (over.0 - 1) as u32
+}

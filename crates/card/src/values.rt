@@ -1,0 +1,157 @@
+// The value of a card's field, read from its bytes.
+ghost use mathlib.Core.Path.{_≡_};
+ghost use mathlib.Core.Bool.{true};
+ghost use Prim.Native.Nat.{_≤_, _<_};
+ghost use lib.ListN.{length, take, drop};
+ghost use Rattle.rules.specs.Form as form;
+ghost use Rattle.card.specs.Values.{timing};
+ghost use Rattle.card.specs.Reading as reading;
+use crate::Card;
+use crate::Read;
+use crate::ranges::value_good;
+
+// The listed length of a tag; 0 where there is no such tag.
+fn listed(tag: u8) -> usize
+    ensures { λ r. ⌜ r ≡ reading.sizeOf tag ⌝ }
+{
+    if (tag == 1) | (tag == 4) | (tag == 33) {
+        return 4;
+    }
+    if tag == 2 {
+        return 1;
+    }
+    if tag == 3 {
+        return 2;
+    }
+    if (5 <= tag) & (tag <= 18) {
+        return 5;
+    }
+    if tag == 32 {
+        return 7;
+    }
+    0
+}
+
+pub fn length_good(tag: u8, size: usize) -> bool
+    ensures { λ r. ⌜ r ≡ form.lengthGood tag size ⌝ }
+{
+    let listed = listed(tag);
+    (0 < listed) & (listed == size)
+}
+
+fn wide(x: u8) -> u32
+    ensures { λ r. ⌜ (r ≡ x) × (r < 256) ⌝ }
+{
+    x as u32
+}
+
+// Numbers are big-endian.
+fn number(bytes: &[u8]) -> u32
+    requires { ⌜ length (now bytes) ≤ 4 ⌝ }
+    ensures { λ r. ⌜ r ≡ form.number (now (bytes .entry)) ⌝ }
+{
+    let mut x: u32 = 0;
+    let mut i: usize = 0;
+    while i < bytes.len() {
+        x = 256 * x + wide(bytes[i]);
+        i += 1;
+    }
+    x
+}
+
+// The whole value of tags 1 to 4, and the duration of a timing.
+fn first_four(value: &[u8]) -> u32
+    ensures { λ r. ⌜ r ≡ form.number (take 4 (now (value .entry))) ⌝ }
+{
+    if value.len() < 5 {
+        return number(value);
+    }
+    number(&value[..4])
+}
+
+// The floor of a timing; 0 where the value is shorter.
+fn fifth(value: &[u8]) -> u8
+    requires { ⌜ length (now value) ≤ 5 ⌝ }
+    ensures { λ r. ⌜ r ≡ form.number (drop 4 (now (value .entry))) ⌝ }
+{
+    if value.len() < 5 {
+        return 0;
+    }
+    value[4]
+}
+
+fn put(card: Card, tag: u8, x: u32, floor: u8) -> Card
+    requires { ⌜ (1 ≤ tag) × (tag ≤ 18) × (reading.good (card .period) tag x (timing x floor) ≡ true) ⌝ }
+    ensures { λ r. ⌜ r ≡ reading.put card tag x (timing x floor) ⌝ }
+{
+    let mut next = card;
+    if tag == 1 {
+        next.period = x;
+        return next;
+    }
+    if tag == 2 {
+        next.mr2 = x as u8;
+        return next;
+    }
+    if tag == 3 {
+        next.groups = x as u16;
+        return next;
+    }
+    if tag == 4 {
+        next.trefi = x;
+        return next;
+    }
+    let i = (tag - 5) as usize;
+    next.durations[i] = x;
+    next.floors[i] = floor;
+    next
+}
+
+fn taken(card: Card, tag: u8, x: u32, floor: u8) -> Read
+    requires { ⌜ (1 ≤ tag) × (tag ≤ 18) ⌝ }
+    ensures { λ r. ⌜ r ≡ reading.taken card tag x (timing x floor) ⌝ }
+{
+    if value_good(card.period, tag, x, floor) {
+        let next = put(card, tag, x, floor);
+        return Read {
+            refusal: 0,
+            card: next,
+        };
+    }
+    Read {
+        refusal: 4,
+        card: card,
+    }
+}
+
+pub fn read_value(card: Card, tag: u8, value: &[u8]) -> Read
+    ensures { λ r. ⌜ r ≡ reading.readOf card tag (now (value .entry)) ⌝ }
+{
+    if !((1 <= tag) & (tag <= 18)) {
+        return Read {
+            refusal: 2,
+            card: card,
+        };
+    }
+    if !length_good(tag, value.len()) {
+        return Read {
+            refusal: 3,
+            card: card,
+        };
+    }
+    taken(card, tag, first_four(value), fifth(value))
+}
+
+// The card before its first field.
+pub fn blank() -> Card
+    ensures { λ r. ⌜ r ≡ reading.blankCard ⌝ }
+{
+    Card {
+        period: 0,
+        mr2: 0,
+        groups: 0,
+        trefi: 0,
+        durations: [0; 14],
+        floors: [0; 14],
+    }
+}

@@ -1,0 +1,78 @@
+-- The promise of each public function determines its answer and the ledger that it leaves.
+use Prim.Native.Nat.{ℕ, suc, _+_, _-_, _≤_, _<_}
+use mathlib.Core.Path.{_≡_, refl, ap, sym, _∙_}
+use mathlib.Core.Logic.{⊎-elim}
+use mathlib.Core.Bool.{true, false, cond}
+use mathlib.Core.Option.{Option, none, some}
+use native.Mathlib.Omega.{arith}
+use lib.Dec.{ltb, eqb}
+use lib.IntN.{ℤ, pos, negsuc, subℕ}
+use Rattle.rules.specs.Checks.{Refusal, refusal}
+use Rattle.rules.specs.Lent as lent
+use Rattle.rules.proofs.Tests.{lt-cases}
+use Rattle.rules.proofs.Determined.{Promise, Determined, determined, fact-of}
+use Rattle.ledger.specs.declared.Ledger.{Ledger}
+use Rattle.ledger.specs.declared.Answer.{Answer}
+use Rattle.ledger.specs.declared.Answer.the-variants.{Done, BadRecord, Earlier, Overdue}
+use Rattle.ledger.specs.declared.After.{After}
+use Rattle.ledger.specs.Values.{ledgerOf, refusalOf, Left}
+use Rattle.ledger.proofs.calls.moved as moved
+use Rattle.ledger.proofs.calls.entered as entered
+use Rattle.ledger.proofs.move_on as move-on
+
+-- the case that has these numbers
+abbrev answerOf : Option Refusal → Answer
+answerOf none = Done
+answerOf (some x) = cond (eqb (x .number) 13) BadRecord (cond (eqb (x .number) 5) Earlier (Overdue (x .rule) (x .cycle)))
+
+answer-is : (y : Answer) → answerOf (refusalOf y) ≡ y
+unfolding refusalOf refusal
+answer-is Done = refl
+answer-is BadRecord = refl
+answer-is Earlier = refl
+answer-is (Overdue q t) = refl
+
+-- the number as it is stored, 8 added
+abbrev stored : ℤ → ℕ
+stored (pos n) = 8 + n
+stored (negsuc n) = 7 - n
+
+stored-is : (x : ℕ) → stored (subℕ x 8) ≡ x
+stored-is x = ⊎-elim
+    (λ (p : (x < 8) × (ltb x 8 ≡ true)). rw (p .1) (omega arith))
+    (λ (p : (8 ≤ x) × (ltb x 8 ≡ false)). rw (p .1) (omega arith))
+    (lt-cases x 8)
+
+abbrev codeOf : lent.Ledger → Ledger
+codeOf g = record { at = g .at; owed = stored (g .owing); refreshed = g .refreshed }
+
+code-is : (g : Ledger) → codeOf (ledgerOf g) ≡ g
+unfolding ledgerOf
+code-is g = λ i. record { at = g .at; owed = stored-is (g .owed) i; refreshed = g .refreshed }
+
+-- two that are told and left so are one
+pub one-left : (o : Option Refusal) (old new : lent.Ledger) (r s : After) → Left o old new r → Left o old new s → r ≡ s
+one-left o old new r s p q =
+    let a : r .answer ≡ s .answer = sym (answer-is (r .answer)) ∙ ap answerOf (p .told ∙ sym (q .told)) ∙ answer-is (s .answer) in
+    let g : r .ledger ≡ s .ledger = sym (code-is (r .ledger)) ∙ ap codeOf (p .ledger ∙ sym (q .ledger)) ∙ code-is (s .ledger) in
+    λ i. record { ledger = g i; answer = a i }
+
+abbrev moved-says : Promise moved.ended
+moved-says w = moved.clauses (w .𝓤) (w .H) (w .𝓖 .A) (w .𝓜 .mem) (w .𝓡 .run)
+
+pub moved-determined : Determined moved.ended moved-says
+moved-determined = determined moved.ended moved-says (λ κs a r e. fact-of _) (λ κs a r r′ ws ws′ p p′. (one-left _ _ _ r r′ p p′, refl))
+
+abbrev entered-says : Promise entered.ended
+entered-says w = entered.clauses (w .𝓤) (w .H) (w .𝓖 .A) (w .𝓜 .mem) (w .𝓡 .run)
+
+pub entered-determined : Determined entered.ended entered-says
+entered-determined = determined entered.ended entered-says (λ κs a r e. fact-of _) (λ κs a r r′ ws ws′ p p′. (one-left _ _ _ r r′ p p′, refl))
+
+abbrev move-on-says : Promise move-on.ended
+move-on-says w = move-on.clauses (w .𝓤) (w .H) (w .𝓖 .A) (w .𝓜 .mem) (w .𝓡 .run)
+
+pub move-on-determined : Determined move-on.ended move-on-says
+move-on-determined =
+    determined move-on.ended move-on-says (λ κs a r e. fact-of _)
+    (λ κs a r r′ ws ws′ p p′. let e = one-left _ _ _ _ _ p p′ in (ap (λ (x : After). x .answer) e, λ i. (e i .ledger, (tt, (tt, tt)))))

@@ -1,0 +1,61 @@
+-- 13, 5, and then the account.
+use mathlib.Core.Path.{refl, sym, _∙_}
+use borrow.Author.Needs.{needs}
+use Rattle.rules.specs.Folds.{firstOf}
+use Rattle.rules.proofs.Decided.{or-none}
+use Rattle.ledger.specs.Values.{ledgerOf, refusalOf, askedOf}
+use Rattle.ledger.proofs.Moves.{refused-as}
+use Rattle.ledger.proofs.Admission.{refused-13, refused-5, not-refused, stood-args}
+use Rattle.ledger.proofs.calls.asked.Statement.{statement}
+use Rattle.ledger.proofs.calls.asked.Tie as tie
+
+admission-requires : tie.Need-admission-requires
+admission-requires c κs = search needs
+
+told-requires : tie.Need-told-requires
+told-requires c κs = search needs
+
+returns : tie.Need-returns
+unfolding askedOf refusalOf
+returns c =
+    rw (c .told .ensures)
+    (refused-as _ _ (refused-13 _ _ _ (sym (c .before .before .admission .ensures) ∙ c .before .if1 .taken) _) _ _ refl _)
+
+told-requires-2 : tie.Need-told-requires-2
+told-requires-2 c κs = search needs
+
+returns-2 : tie.Need-returns-2
+unfolding askedOf refusalOf
+returns-2 c =
+    rw (c .told2 .ensures)
+    (refused-as _ _ (refused-5 _ _ _ (sym (c .before .before .before .admission .ensures) ∙ c .before .if2 .taken) _) _ _ refl _)
+
+interval-requires : tie.Need-interval-requires
+interval-requires c κs = search needs
+
+go-on-requires : tie.Need-go-on-requires
+go-on-requires c κs =
+    let d = c .before .before .before .admission .ensures in
+    let p = not-refused _ _ _ (λ e. c .before .before .if1 .left (d ∙ e)) (λ e. c .before .if2 .left (d ∙ e)) in
+    let a = stood-args _ _ _ (p .0) in
+    record { some = rw (c .interval .ensures) (a .0); low = a .1; later = a .2 }
+
+returns-3 : tie.Need-returns-3
+unfolding askedOf firstOf ledgerOf
+returns-3 c =
+    let d = c .before .before .before .before .admission .ensures in
+    let p = not-refused _ _ _ (λ e. c .before .before .before .if1 .left (d ∙ e)) (λ e. c .before .before .if2 .left (d ∙ e)) in
+    rw (p .1 _, or-none, ← c .before .interval .ensures) (c .go-on .ensures)
+
+pub asked-spec : {M : Type 1} → statement M
+asked-spec =
+    tie.close
+    (tie.spec
+    admission-requires
+    told-requires
+    returns
+    told-requires-2
+    returns-2
+    interval-requires
+    go-on-requires
+    returns-3)

@@ -1,0 +1,49 @@
+-- Each outcome by its law, from what `takes` and the test of the room told.
+use mathlib.Core.Path.{sym, _∙_}
+use native.Mathlib.Omega.{arith}
+use borrow.Author.Tests.{not-true, not-false}
+use borrow.Author.Needs.{needs}
+use Rattle.pins.proofs.Written.{unfit, no-room, done}
+use Rattle.pins.proofs.writer.write_entry.Statement.{statement}
+use Rattle.pins.proofs.writer.write_entry.Tie as tie
+
+takes-requires : tie.Need-takes-requires
+takes-requires c κs = search needs
+
+returns : tie.Need-returns
+returns c = unfit _ _ _ (sym (c .before .takes .ensures) ∙ search not-true)
+
+returns-2 : tie.Need-returns-2
+returns-2 c = no-room _ _ _ (sym (c .before .before .takes .ensures) ∙ search not-false) (omega arith)
+
+pins-of-requires : tie.Need-pins-of-requires
+pins-of-requires c κs = search needs
+
+entry-of-requires : tie.Need-entry-of-requires
+entry-of-requires c κs = search needs
+
+put-requires : tie.Need-put-requires
+put-requires c κs = search needs
+
+same-length : tie.Need-same-length
+same-length c = search needs
+
+returns-3 : tie.Need-returns-3
+returns-3 c =
+    let d = c .before .before .before .before in
+    let t = d .before .before .before in
+    done _ _ _ _ (sym (t .before .takes .ensures) ∙ search not-false) (omega arith)
+    (c .before .before .put .ensures ∙ rw (d .entry-of .ensures, d .before .pins-of .ensures))
+
+pub write-entry-spec : {M : Type 1} → statement M
+write-entry-spec =
+    tie.close
+    (tie.spec
+    takes-requires
+    returns
+    returns-2
+    pins-of-requires
+    entry-of-requires
+    put-requires
+    same-length
+    returns-3)

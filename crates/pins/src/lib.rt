@@ -1,0 +1,36 @@
+// The commands on the pins: decoding, the table of kinds, and the writer.
+mod reader;
+mod table;
+mod writer;
+
+pub use reader::decode;
+pub use table::kinds;
+pub use writer::write_entry;
+
+// A command with its numbers. A column is even.
+pub enum Command {
+    Nop,
+    Mrw { ma: u8, op: u8 },
+    Mrr { ma: u8 },
+    Refpb,
+    Refab,
+    Act { bank: u8, row: u16 },
+    Rd { bank: u8, column: u16, ap: bool },
+    Wr { bank: u8, column: u16, ap: bool },
+    Pre { bank: u8 },
+    Prea,
+}
+
+// What pins are: a command, wrong bits (6), or a reserved pattern or an unlisted MA (7).
+pub enum Decoded {
+    Good(Command),
+    WrongBits,
+    Reserved,
+}
+
+// What the writer did: an entry written, or a refusal because of what the command carries (14) or for want of room (15).
+pub enum Wrote {
+    Done,
+    Unfit,
+    NoRoom,
+}
