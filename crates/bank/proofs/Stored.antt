@@ -1,0 +1,298 @@
+-- Refusal 13 of what a record remembers, from the rules' tests over questions and banks to a test of each field.
+use Prim.Native.Nat.{ℕ, zero, suc, _+_, _-_, _≤_, _<_, min}
+use mathlib.Core.Path.{_≡_, refl, ap, sym, _∙_}
+use mathlib.Core.Logic.{⊎-elim}
+use mathlib.Core.Bool.{Bool, true, false, cond, _&&_}
+use mathlib.Core.List.{List, [], _∷_}
+use mathlib.Core.Option.{none, some}
+use native.Mathlib.Omega.{arith}
+use native.Mathlib.Numerals.{add-one}
+use lib.Dec.{leb, ltb}
+use lib.ListN.{length, getD}
+use borrow.Author.Tests.{lt-ltb, le-ltb, le-leb}
+use Rattle.rules.specs.Lists.{all}
+use Rattle.rules.specs.Commands.{banks}
+use Rattle.rules.specs.Registers.{mr2Good}
+use Rattle.rules.specs.Folds.{Found}
+use Rattle.rules.specs.Delays.{
+  Ask,
+  lastMRW,
+  lastMRR,
+  lastREFab,
+  lastREFpb,
+  lastREFpb-to,
+  lastPRE-to,
+  lastPREA-to,
+  lastACT-to,
+  fourthLast,
+  lastRD,
+  lastWR,
+  lastRDorMRR,
+  lastRD-to,
+  lastRDA-to,
+  lastWR-to,
+  lastWRA-to,
+  latestOf,
+  laggingOf,
+  fourthOf,
+  latestIf,
+  means,
+}
+use Rattle.rules.specs.Lent.{asks, allStored, mr2sGood, notAbove, stampsGood}
+use Rattle.rules.proofs.Tests.{lt-cases, le-cases}
+use Rattle.card.specs.Values.{cardOf}
+use Rattle.bank.specs.declared.Once.{Once}
+use Rattle.bank.specs.declared.Noted.{Noted}
+use Rattle.bank.specs.declared.Each.{Each}
+use Rattle.bank.specs.declared.NotedEach.{NotedEach}
+use Rattle.bank.specs.declared.Record.{Record}
+use Rattle.bank.specs.Values.{entry, kept, once, noted, each, notedEach, four, outweighed, preOf, preaOf, asked, lastOf, lentOf}
+use Rattle.bank.specs.Clauses.{keptBy, eachBy, fourBy, latestBy, rowsBy, busBy, dataBy, noteGood, notesGood}
+
+-- ---- conjunctions
+and-true : (a : Bool) → (a && true) ≡ a
+and-true true = refl
+and-true false = refl
+
+and-false : (a : Bool) → (a && false) ≡ false
+and-false true = refl
+and-false false = refl
+
+and-assoc : (a b c : Bool) → ((a && b) && c) ≡ (a && (b && c))
+and-assoc true b c = refl
+and-assoc false b c = refl
+
+and-comm : (a b : Bool) → (a && b) ≡ (b && a)
+and-comm true b = sym (and-true b)
+and-comm false b = sym (and-false b)
+
+and-swap : (a b c d : Bool) → ((a && b) && (c && d)) ≡ ((a && c) && (b && d))
+and-swap true b true d = refl
+and-swap true true false d = refl
+and-swap true false false d = refl
+and-swap false b c d = refl
+
+-- ---- a test at each bank
+-- at n numbers from i on
+unfoldable pub onward : (ℕ → Bool) → ℕ → ℕ → Bool
+onward p i zero = true
+onward p i (suc n) = p i && onward p (suc i) n
+
+pub all-onward : (p : ℕ → Bool) → all p banks ≡ onward p 0 8
+unfolding onward all banks
+all-onward p = refl
+
+pub onward-next : (p : ℕ → Bool) (n i : ℕ) → i < n → onward p i (n - i) ≡ (p i && onward p (i + 1) (n - (i + 1)))
+unfolding onward
+onward-next p n i h =
+    let e : n - i ≡ suc (n - (i + 1)) = omega arith in
+    rw (e, add-one)
+
+all-const : (a : Bool) → all (λ b. a) banks ≡ a
+unfolding all banks
+all-const true = refl
+all-const false = refl
+
+module _ {A : Type 0} where
+  all-same : (p q : A → Bool) → ((x : A) → p x ≡ q x) → (l : List A) → all p l ≡ all q l
+  unfolding all
+  all-same p q e [] = refl
+  all-same p q e (x ∷ l) = rw (e x, all-same p q e l)
+
+  all-both : (p q : A → Bool) (l : List A) → (all p l && all q l) ≡ all (λ x. p x && q x) l
+  unfolding all
+  all-both p q [] = refl
+  all-both p q (x ∷ l) = and-swap (p x) (all p l) (q x) (all q l) ∙ ap (λ z. (p x && q x) && z) (all-both p q l)
+
+-- ---- what is kept
+all-kept : (q : Found ℕ → Bool) (s : Bool) (t n : ℕ) → all q (kept s t n) ≡ cond s (q (entry t n)) true
+unfolding all kept
+all-kept q true t n = and-true _
+all-kept q false t n = refl
+
+kept-once : (q : Found ℕ → Bool) (s : Bool) (t n : ℕ) → all (λ b. all q (kept s t n)) banks ≡ cond s (q (entry t n)) true
+kept-once q s t n = all-const _ ∙ all-kept q s t n
+
+kept-each : (q : Found ℕ → Bool) (s : ℕ → Bool) (t n : ℕ → ℕ) →
+    all (λ b. all q (kept (s b) (t b) (n b))) banks ≡ all (λ b. cond (s b) (q (entry (t b) (n b))) true) banks
+kept-each q s t n = all-same _ _ (λ b. all-kept q (s b) (t b) (n b)) banks
+
+-- a test that passes all
+passes : (l : List (Found ℕ)) → all (λ f. true) l ≡ true
+unfolding all
+passes [] = refl
+passes (x ∷ l) = passes l
+
+none-tested : (h : ℕ → List (Found ℕ)) → all (λ b. all (λ f. true) (h b)) banks ≡ true
+none-tested h = all-same _ (λ b. true) (λ b. passes (h b)) banks ∙ all-const true
+
+all-asks : (p : Ask → Bool) → all p asks ≡ (
+    (p lastMRW && p lastMRR && p lastREFab && p lastREFpb) &&
+    (p lastREFpb-to && (p lastPRE-to && p lastPREA-to) && p lastACT-to) &&
+    p fourthLast &&
+    (p lastRD && p lastWR && p lastRDorMRR) &&
+    (p lastRD-to && p lastRDA-to && p lastWR-to && p lastWRA-to)
+    )
+unfolding all asks
+all-asks p = simp (and-assoc, and-true) refl
+
+-- ---- stamps
+module _ (last : Once) where
+  abbrev below : Found ℕ → Bool
+  below f = notAbove (lastOf last) (f .stamp)
+
+  pub not-above-last : (t : ℕ) → (last .seen && leb t (last .at)) ≡ notAbove (lastOf last) t
+  unfolding lastOf notAbove
+  not-above-last t = go (last .seen)
+    where
+      go : (s : Bool) → (s && leb t (last .at)) ≡ notAbove (cond s (some (last .at)) none) t
+      go true = refl
+      go false = refl
+
+  once-by : (s : Bool) (t n : ℕ) → all (λ b. all below (kept s t n)) banks ≡ keptBy last s t
+  unfolding keptBy
+  once-by s t n = kept-once below s t n
+
+  each-by : (s : List Bool) (t : List ℕ) (n : ℕ → ℕ) →
+      all (λ b. all below (kept (getD s b false) (getD t b 0) (n b))) banks ≡ eachBy last s t
+  unfolding keptBy eachBy
+  each-by s t n = kept-each below (λ b. getD s b false) (λ b. getD t b 0) n
+
+  four-of : (n a b c d : ℕ) →
+      fourBy last n (a ∷ b ∷ c ∷ d ∷ []) ≡ onward (λ k. keptBy last (ltb k n) (getD (a ∷ b ∷ c ∷ d ∷ []) k 0)) 0 4
+  unfolding fourBy four all keptBy onward
+  four-of zero a b c d = refl
+  four-of (suc zero) a b c d = refl
+  four-of (suc (suc zero)) a b c d = refl
+  four-of (suc (suc (suc zero))) a b c d = refl
+  four-of (suc (suc (suc (suc n)))) a b c d =
+      let m : min (suc (suc (suc (suc n)))) 4 ≡ 4 = omega arith in
+      rw (m, seen 0 (omega arith), seen 1 (omega arith), seen 2 (omega arith), seen 3 (omega arith))
+    where
+      seen : (k : ℕ) → k ≤ 3 → ltb k (suc (suc (suc (suc n)))) ≡ true
+      seen k h = lt-ltb k (suc (suc (suc (suc n)))) (omega arith)
+
+  pub fours : (n : ℕ) (l : List ℕ) → length l ≡ 4 → fourBy last n l ≡ onward (λ k. keptBy last (ltb k n) (getD l k 0)) 0 4
+  fours n [] h = absurd (omega arith)
+  fours n (a ∷ []) h = absurd (omega arith)
+  fours n (a ∷ b ∷ []) h = absurd (omega arith)
+  fours n (a ∷ b ∷ c ∷ []) h = absurd (omega arith)
+  fours n (a ∷ b ∷ c ∷ d ∷ []) h = four-of n a b c d
+  fours n (a ∷ b ∷ c ∷ d ∷ e ∷ l) h = absurd (omega arith)
+
+  -- of two stamps, the later one tells
+  later-tells : (t u : ℕ) → t ≤ u → (notAbove (lastOf last) t && notAbove (lastOf last) u) ≡ notAbove (lastOf last) u
+  unfolding lastOf notAbove
+  later-tells t u h = go (last .seen)
+    where
+      go : (s : Bool) →
+          (notAbove (cond s (some (last .at)) none) t && notAbove (cond s (some (last .at)) none) u) ≡ notAbove (cond s (some (last .at)) none) u
+      go false = refl
+      go true = ⊎-elim
+          (λ (q : (u ≤ last .at) × (leb u (last .at) ≡ true)). rw (le-leb t (last .at) (omega (arith, q .0))))
+          (λ (q : (last .at < u) × (leb u (last .at) ≡ false)). rw (q .1) (and-false (leb t (last .at))))
+          (le-cases u (last .at))
+
+  earlier-tells : (t u : ℕ) → u ≤ t → (notAbove (lastOf last) t && notAbove (lastOf last) u) ≡ notAbove (lastOf last) t
+  earlier-tells t u h = and-comm (notAbove (lastOf last) t) (notAbove (lastOf last) u) ∙ later-tells u t h
+
+  -- two that may outweigh each other: what is outweighed is below the other
+  either-way : (s r : Bool) (t u : ℕ) →
+      (all below (cond (outweighed s r t u) [] (kept s t 0)) && all below (cond (outweighed r s u t) [] (kept r u 0))) ≡ (keptBy last s t && keptBy last r u)
+  unfolding outweighed all kept keptBy
+  either-way false false t u = refl
+  either-way false true t u = and-true _
+  either-way true false t u = and-true (notAbove (lastOf last) t && true)
+  either-way true true t u = ⊎-elim
+      (λ (q : (t < u) × (ltb t u ≡ true)).
+      rw (q .1, le-ltb u t (omega (arith, q .0))) (and-true _ ∙ sym (later-tells t u (omega (arith, q .0)))))
+      (λ (q : (u ≤ t) × (ltb t u ≡ false)). rw (q .1) (other (q .0)))
+      (lt-cases t u)
+    where
+      other : u ≤ t →
+          ((notAbove (lastOf last) t && true) && all below (cond (ltb u t) [] (kept true u 0))) ≡ (notAbove (lastOf last) t && notAbove (lastOf last) u)
+      other h = ⊎-elim
+          (λ (q : (u < t) × (ltb u t ≡ true)). rw (q .1) (and-true _ ∙ and-true _ ∙ sym (earlier-tells t u h)))
+          (λ (q : (t ≤ u) × (ltb u t ≡ false)). rw (q .1, and-true (notAbove (lastOf last) t), and-true (notAbove (lastOf last) u)))
+          (lt-cases u t)
+
+  pre-and-prea : (p : Each) (a : Once) →
+      (all (λ b. all below (cond (outweighed (getD (p .seen) b false) (a .seen) (getD (p .at) b 0) (a .at)) [] (each p b))) banks &&
+      all (λ b. all below (cond (outweighed (a .seen) (getD (p .seen) b false) (a .at) (getD (p .at) b 0)) [] (once a))) banks) ≡
+      (eachBy last (p .seen) (p .at) && keptBy last (a .seen) (a .at))
+  unfolding each once eachBy
+  pre-and-prea p a =
+      all-both _ _ banks ∙
+      all-same _ _ (λ b. either-way (getD (p .seen) b false) (a .seen) (getD (p .at) b 0) (a .at)) banks ∙
+      sym (all-both _ _ banks) ∙
+      ap (λ z. eachBy last (p .seen) (p .at) && z) (all-const _)
+
+module _ (rec : Record) where
+  pub stamps-are : stampsGood (lentOf rec) ≡ (
+      latestBy (rec .last) (rec .latest) &&
+      rowsBy (rec .last) (rec .banks) (rec .latest .prea) &&
+      fourBy (rec .last) (rec .four .count) (rec .four .at) &&
+      busBy (rec .last) (rec .bus) &&
+      dataBy (rec .last) (rec .banks)
+      )
+  unfolding stampsGood allStored lentOf asked once noted each notedEach preOf preaOf latestBy rowsBy busBy dataBy fourBy
+  stamps-are =
+      let z = rec .last in
+      let l = rec .latest in
+      let u = rec .bus in
+      let k = rec .banks in
+      all-asks (λ a. all (λ b. all (below z) (asked rec a b)) banks) ∙
+      (λ i.
+      (once-by z (l .mrw .seen) (l .mrw .at) 0 i &&
+      once-by z (l .mrr .seen) (l .mrr .at) 0 i &&
+      once-by z (l .refab .seen) (l .refab .at) 0 i &&
+      once-by z (l .refpb .seen) (l .refpb .at) 0 i) &&
+      (each-by z (k .refpb .seen) (k .refpb .at) (λ b. 0) i && pre-and-prea z (k .pre) (l .prea) i && each-by z (k .act .seen) (k .act .at) (λ b. 0) i) &&
+      all-const (fourBy z (rec .four .count) (rec .four .at)) i &&
+      (once-by z (u .rd .seen) (u .rd .at) 0 i &&
+      once-by z (u .wr .seen) (u .wr .at) (u .wr .mr2) i &&
+      once-by z (u .turn .seen) (u .turn .at) (u .turn .mr2) i) &&
+      (each-by z (k .rd .seen) (k .rd .at) (λ b. 0) i &&
+      each-by z (k .rda .seen) (k .rda .at) (λ b. 0) i &&
+      each-by z (k .wr .seen) (k .wr .at) (λ b. getD (k .wr .mr2) b 0) i &&
+      each-by z (k .wra .seen) (k .wra .at) (λ b. getD (k .wra .mr2) b 0) i))
+
+  -- ---- MR2 values
+  abbrev fits : Found ℕ → Bool
+  fits f = mr2Good (rec .card .period) (f .noted)
+
+  abbrev lagging : Ask → Bool
+  lagging a = all (λ b. all (λ f. cond (means a .lags) (fits f) true) (asked rec a b)) banks
+
+  noted-fits : (x : Noted) → all (λ b. all fits (noted x)) banks ≡ noteGood (rec .card .period) (x .seen) (x .mr2)
+  unfolding noted noteGood
+  noted-fits x = kept-once fits (x .seen) (x .at) (x .mr2)
+
+  each-fits : (x : NotedEach) → all (λ b. all fits (notedEach x b)) banks ≡ notesGood (rec .card .period) (x .seen) (x .mr2)
+  unfolding notedEach noteGood notesGood
+  each-fits x = kept-each fits (λ b. getD (x .seen) b false) (λ b. getD (x .at) b 0) (λ b. getD (x .mr2) b 0)
+
+  pub mr2s-are : mr2sGood (lentOf rec) ≡ (
+      mr2Good (rec .card .period) (rec .mr2) &&
+      (noteGood (rec .card .period) (rec .bus .wr .seen) (rec .bus .wr .mr2) && noteGood (rec .card .period) (rec .bus .turn .seen) (rec .bus .turn .mr2)) &&
+      (notesGood (rec .card .period) (rec .banks .wr .seen) (rec .banks .wr .mr2) && notesGood (rec .card .period) (rec .banks .wra .seen) (rec .banks .wra .mr2))
+      )
+  unfolding mr2sGood allStored lentOf cardOf means latestOf laggingOf fourthOf latestIf asked
+  mr2s-are =
+      ap (λ z. mr2Good (rec .card .period) (rec .mr2) && z)
+      (all-asks lagging ∙
+      (λ i.
+      (none-tested (asked rec lastMRW) i &&
+      none-tested (asked rec lastMRR) i &&
+      none-tested (asked rec lastREFab) i &&
+      none-tested (asked rec lastREFpb) i) &&
+      (none-tested (asked rec lastREFpb-to) i &&
+      (none-tested (asked rec lastPRE-to) i && none-tested (asked rec lastPREA-to) i) &&
+      none-tested (asked rec lastACT-to) i) &&
+      none-tested (asked rec fourthLast) i &&
+      (none-tested (asked rec lastRD) i && noted-fits (rec .bus .wr) i && noted-fits (rec .bus .turn) i) &&
+      (none-tested (asked rec lastRD-to) i &&
+      none-tested (asked rec lastRDA-to) i &&
+      each-fits (rec .banks .wr) i &&
+      each-fits (rec .banks .wra) i))) ∙
+      sym (and-assoc (mr2Good (rec .card .period) (rec .mr2)) _ _)

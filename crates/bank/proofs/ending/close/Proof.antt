@@ -1,0 +1,34 @@
+-- 13, then 5 by the last entry, then the ledger's own answer.
+use mathlib.Core.Path.{sym, _∙_}
+use borrow.Author.Tests.{not-true, not-false}
+use borrow.Author.Needs.{needs}
+use Rattle.bank.proofs.Closed.{bad, early, after-end, by-end, moved-on}
+use Rattle.bank.proofs.ending.close.Statement.{statement}
+use Rattle.bank.proofs.ending.close.Tie as tie
+
+good-requires : tie.Need-good-requires
+good-requires c κs = search needs
+
+returns : tie.Need-returns
+returns c = bad _ _ (sym (c .before .good2 .ensures) ∙ not-true _ (c .if1 .taken))
+
+returns-2 : tie.Need-returns-2
+returns-2 c =
+    let e = c .before .before .before in
+    early _ _ (sym (e .before .good2 .ensures) ∙ not-false _ (e .if1 .left)) (after-end _ _ (c .if2 .taken))
+
+moved-requires : tie.Need-moved-requires
+moved-requires c κs = search needs
+
+ended-requires : tie.Need-ended-requires
+ended-requires c κs = search needs
+
+returns-3 : tie.Need-returns-3
+returns-3 c =
+    let e = c .before .before .before .before .before in
+    rw (c .ended .ensures)
+    (moved-on _ _ (sym (e .before .good2 .ensures) ∙ not-false _ (e .if1 .left)) (by-end _ _ (c .before .before .if2 .left)) _ (c .before .moved .ensures))
+
+pub close-spec : {M : Type 1} → statement M
+close-spec =
+    tie.close (tie.spec good-requires returns returns-2 moved-requires ended-requires returns-3)

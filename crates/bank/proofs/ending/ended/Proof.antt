@@ -1,0 +1,46 @@
+-- What the ledger is told, case by case.
+use borrow.Author.Needs.{needs}
+use Rattle.bank.specs.Values.{endedOf}
+use Rattle.bank.proofs.ending.ended.Statement.{statement}
+use Rattle.bank.proofs.ending.ended.Tie as tie
+
+enum-told : tie.Need-enum-told
+enum-told c = search needs
+
+enum-told-2 : tie.Need-enum-told-2
+enum-told-2 c = search needs
+
+enum-told-3 : tie.Need-enum-told-3
+enum-told-3 c = search needs
+
+enum-known-answer : tie.Need-enum-known-answer
+enum-known-answer c = search needs
+
+returns : tie.Need-returns
+unfolding endedOf
+returns c = rw (c .enum-told .given .1)
+
+returns-2 : tie.Need-returns-2
+unfolding endedOf
+returns-2 c = rw (c .enum-told2 .given .1)
+
+returns-3 : tie.Need-returns-3
+unfolding endedOf
+returns-3 c = rw (c .enum-told3 .given .1)
+
+returns-4 : tie.Need-returns-4
+unfolding endedOf
+returns-4 c = rw (c .before .answer .given .1)
+
+pub ended-spec : {M : Type 1} → statement M
+ended-spec =
+    tie.close
+    (tie.spec
+    enum-told
+    enum-told-2
+    enum-told-3
+    enum-known-answer
+    returns
+    returns-2
+    returns-3
+    returns-4)

@@ -1,0 +1,52 @@
+-- The banks from i on are still to be tested.
+use Prim.Native.Nat.{_≤_, _-_}
+use mathlib.Core.Bool.{false}
+use mathlib.Core.Path.{sym, _∙_, _≡_}
+use native.Mathlib.Omega.{arith}
+use lib.ListN.{getD}
+use borrow.Author.Needs.{needs}
+use borrow.Author.Tests.{not-true, not-false}
+use Rattle.bank.specs.Clauses.{noteGood, notesGood}
+use Rattle.bank.proofs.Stored.{onward, all-onward, onward-next}
+use Rattle.bank.proofs.sound.notes_good.Statement.{statement}
+use Rattle.bank.proofs.sound.notes_good.Tie as tie
+
+abbrev Inv-loop : tie.InvT-loop
+Inv-loop period x i₀ i = (i ≤ 8) × (notesGood period (x .seen) (x .mr2) ≡ onward (λ k. noteGood period (getD (x .seen) k false) (getD (x .mr2) k 0)) i (8 - i))
+
+abbrev μ-loop : tie.MeasureT-loop
+μ-loop period x i₀ i = 8 - i
+
+loop-holds : tie.Need-loop-holds Inv-loop μ-loop
+unfolding notesGood
+loop-holds c = (omega arith, all-onward _)
+
+returns : tie.Need-returns Inv-loop μ-loop
+returns c =
+    let x = c .before .before .before .before .before .loop in
+    sym (x .inv .1 ∙ onward-next _ 8 (x .i) (omega arith) ∙ rw (← c .before .note-good .ensures, not-true (c .before .note-good .result) (c .if1 .taken)))
+
+loop-again : tie.Need-loop-again Inv-loop μ-loop
+loop-again c =
+    let x = c .before .before .before .before .before .loop in
+    (omega arith, x .inv .1 ∙ onward-next _ 8 (x .i) (omega arith) ∙ rw (← c .before .note-good .ensures, not-false (c .before .note-good .result) (c .if1 .left)))
+
+returns-2 : tie.Need-returns-2 Inv-loop μ-loop
+unfolding onward
+returns-2 c = let e : c .before .loop .i ≡ 8 = omega arith in sym (rw e at (c .before .loop .inv .1))
+
+pub notes-good-spec : {M : Type 1} → statement M
+notes-good-spec =
+    tie.close
+    (tie.spec
+    Inv-loop
+    μ-loop
+    loop-holds
+    (λ c. omega arith)
+    (λ c. omega arith)
+    (λ c κs. search needs)
+    returns
+    (λ c. omega arith)
+    (λ c. omega arith)
+    loop-again
+    returns-2)

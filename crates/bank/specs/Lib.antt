@@ -1,0 +1,3 @@
+-- The record of the code, read as the lent record of the rules.
+pub mod Values
+pub mod Clauses

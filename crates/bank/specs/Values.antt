@@ -1,0 +1,189 @@
+-- The record of the code, read as the lent record of the rules.
+use Prim.Native.Nat.{ℕ, min}
+use mathlib.Core.Path.{_≡_}
+use mathlib.Core.Bool.{Bool, true, false, cond, not, _&&_}
+use mathlib.Core.List.{List, [], _∷_, map}
+use mathlib.Core.Option.{Option, none, some}
+use lib.Dec.{leb, ltb}
+use lib.IntN.{ℤ, subℕ}
+use lib.ListN.{getD, take, replicate}
+use Rattle.rules.specs.Folds.{Found}
+use Rattle.rules.specs.Delays.{
+  Ask,
+  lastMRW,
+  lastMRR,
+  lastREFab,
+  lastREFpb,
+  lastREFpb-to,
+  lastPRE-to,
+  lastPREA-to,
+  lastACT-to,
+  fourthLast,
+  lastRD,
+  lastWR,
+  lastRDorMRR,
+  lastRD-to,
+  lastRDA-to,
+  lastWR-to,
+  lastWRA-to,
+}
+use Rattle.rules.specs.Checks.{Refusal, refusal}
+use Rattle.rules.specs.Lent as lent
+use Rattle.card.specs.Values.{cardOf}
+use Rattle.card.specs.declared.Card.{Card}
+use Rattle.ledger.specs.Values.{ledgerOf}
+use Rattle.bank.specs.declared.Once.{Once}
+use Rattle.bank.specs.declared.Noted.{Noted}
+use Rattle.bank.specs.declared.Each.{Each}
+use Rattle.bank.specs.declared.NotedEach.{NotedEach}
+use Rattle.bank.specs.declared.Four.{Four}
+use Rattle.bank.specs.declared.Record.{Record}
+use Rattle.bank.specs.declared.Ended.{Ended}
+use Rattle.bank.specs.declared.Ended.the-variants.{Paid, BadRecord, Earlier, Overdue}
+use Rattle.ledger.specs.declared.Answer.{Answer}
+use Rattle.ledger.specs.declared.Answer.the-variants as told
+
+-- an entry that is remembered, if it is there; 0 is noted where no rule goes by MR2
+abbrev pub entry : (at noted : ℕ) → Found ℕ
+entry t n = record { stamp = t; noted = n }
+
+unfoldable pub kept : (seen : Bool) → (at noted : ℕ) → List (Found ℕ)
+kept s t n = cond s (entry t n ∷ []) []
+
+unfoldable pub once : Once → List (Found ℕ)
+once x = kept (x .seen) (x .at) 0
+
+unfoldable pub noted : Noted → List (Found ℕ)
+noted x = kept (x .seen) (x .at) (x .mr2)
+
+unfoldable pub each : Each → ℕ → List (Found ℕ)
+each x b = kept (getD (x .seen) b false) (getD (x .at) b 0) 0
+
+unfoldable pub notedEach : NotedEach → ℕ → List (Found ℕ)
+notedEach x b = kept (getD (x .seen) b false) (getD (x .at) b 0) (getD (x .mr2) b 0)
+
+unfoldable pub four : Four → List (Found ℕ)
+four x = map (λ t. entry t 0) (take (min (x .count) 4) (x .at))
+
+-- both were seen, and the second came later
+unfoldable pub outweighed : (seen later : Bool) → (at other : ℕ) → Bool
+outweighed s r t u = s && r && ltb t u
+
+unfoldable pub preOf : Record → ℕ → List (Found ℕ)
+preOf r b =
+    let p = r .banks .pre in
+    let a = r .latest .prea in
+    cond (outweighed (getD (p .seen) b false) (a .seen) (getD (p .at) b 0) (a .at)) [] (each p b)
+
+unfoldable pub preaOf : Record → ℕ → List (Found ℕ)
+preaOf r b =
+    let p = r .banks .pre in
+    let a = r .latest .prea in
+    cond (outweighed (a .seen) (getD (p .seen) b false) (a .at) (getD (p .at) b 0)) [] (once a)
+
+-- what it remembers, by question
+unfoldable pub asked : Record → Ask → ℕ → List (Found ℕ)
+asked r lastMRW b = once (r .latest .mrw)
+asked r lastMRR b = once (r .latest .mrr)
+asked r lastREFab b = once (r .latest .refab)
+asked r lastREFpb b = once (r .latest .refpb)
+asked r lastREFpb-to b = each (r .banks .refpb) b
+asked r lastPRE-to b = preOf r b
+asked r lastPREA-to b = preaOf r b
+asked r lastACT-to b = each (r .banks .act) b
+asked r fourthLast b = four (r .four)
+asked r lastRD b = once (r .bus .rd)
+asked r lastWR b = noted (r .bus .wr)
+asked r lastRDorMRR b = noted (r .bus .turn)
+asked r lastRD-to b = each (r .banks .rd) b
+asked r lastRDA-to b = each (r .banks .rda) b
+asked r lastWR-to b = notedEach (r .banks .wr) b
+asked r lastWRA-to b = notedEach (r .banks .wra) b
+
+unfoldable pub lastOf : Once → Option ℕ
+lastOf x = cond (x .seen) (some (x .at)) none
+
+unfoldable pub lentOf : Record → lent.Lent
+lentOf r = record {
+  card = cardOf (r .card);
+  mr2 = r .mr2;
+  open? = λ b. getD (r .banks .opened) b false;
+  counter = r .counter;
+  last = lastOf (r .last);
+  history = λ q. asked r (q .ask) (q .bank);
+  ledger = ledgerOf (r .ledger);
+}
+
+-- a fresh record
+unfoldable pub never : Once
+never = record { seen = false; at = 0 }
+
+unfoldable pub neverNoted : Noted
+neverNoted = record { seen = false; at = 0; mr2 = 0 }
+
+unfoldable pub neverEach : Each
+neverEach = record { seen = replicate 8 false; at = replicate 8 0 }
+
+unfoldable pub neverNotedEach : NotedEach
+neverNotedEach = record { seen = replicate 8 false; at = replicate 8 0; mr2 = replicate 8 0 }
+
+unfoldable pub freshOf : Card → Record
+freshOf card = record {
+  card = card;
+  mr2 = card .mr2;
+  counter = 0;
+  last = never;
+  latest = record {
+    mrw = never;
+    mrr = never;
+    refab = never;
+    refpb = never;
+    prea = never;
+  };
+  bus = record {
+    rd = never;
+    wr = neverNoted;
+    turn = neverNoted;
+  };
+  four = record { count = 0; at = replicate 4 0 };
+  banks = record {
+    opened = replicate 8 false;
+    refpb = neverEach;
+    pre = neverEach;
+    act = neverEach;
+    rd = neverEach;
+    rda = neverEach;
+    wr = neverNotedEach;
+    wra = neverNotedEach;
+  };
+  ledger = record { at = 0; owed = 8; refreshed = 0 };
+}
+
+-- document 01's numbers of each case of the end, and the ledger at E
+unfoldable pub refusalOf : Ended → Option Refusal
+refusalOf (Paid x) = none
+refusalOf BadRecord = some (refusal 13 0 0)
+refusalOf Earlier = some (refusal 5 0 0)
+refusalOf (Overdue q t) = some (refusal 11 q t)
+
+unfoldable pub owingOf : Ended → Option ℤ
+owingOf (Paid x) = some (subℕ x 8)
+owingOf BadRecord = none
+owingOf Earlier = none
+owingOf (Overdue q t) = none
+
+-- the end by what is told of the ledger that is moved on to it
+unfoldable pub endedOf : (owed : ℕ) → Answer → Ended
+endedOf x told.Done = Paid x
+endedOf x told.BadRecord = BadRecord
+endedOf x told.Earlier = Earlier
+endedOf x (told.Overdue q t) = Overdue q t
+
+unfoldable pub unlessRefused : {A : Type 0} → Option Refusal → A → Option A
+unlessRefused none x = some x
+unlessRefused (some r) x = none
+
+-- the end offered to a record: what is told, and the ledger there
+pub record Closes (l : lent.Lent) (end : ℕ) (r : Ended) : Type 0 where
+  pub told : refusalOf r ≡ lent.closeRefusal l end
+  pub owing : owingOf r ≡ unlessRefused (lent.closeRefusal l end) (lent.owingAt l end)

@@ -1,0 +1,75 @@
+// The record before the first entry.
+ghost use mathlib.Core.Path.{_≡_};
+ghost use Rattle.bank.specs.Values.{never, neverNoted, neverEach, neverNotedEach, freshOf};
+use crate::Banks;
+use crate::Bus;
+use crate::Each;
+use crate::Four;
+use crate::Latest;
+use crate::Noted;
+use crate::NotedEach;
+use crate::Once;
+use crate::Record;
+use card::Card;
+use ledger::Ledger;
+
+const NEVER: Once = Once { seen: false, at: 0 };
+
+const NEVER_NOTED: Noted = Noted {
+    seen: false,
+    at: 0,
+    mr2: 0,
+};
+
+const NEVER_EACH: Each = Each {
+    seen: [false; 8],
+    at: [0; 8],
+};
+
+const NEVER_NOTED_EACH: NotedEach = NotedEach {
+    seen: [false; 8],
+    at: [0; 8],
+    mr2: [0; 8],
+};
+
+pub fn fresh_record(card: Card) -> Record
+    ensures { λ r. ⌜ r ≡ freshOf card ⌝ }
+{
+    Record {
+        card: card,
+        mr2: card.mr2,
+        counter: 0,
+        last: NEVER,
+        latest: Latest {
+            mrw: NEVER,
+            mrr: NEVER,
+            refab: NEVER,
+            refpb: NEVER,
+            prea: NEVER,
+        },
+        bus: Bus {
+            rd: NEVER,
+            wr: NEVER_NOTED,
+            turn: NEVER_NOTED,
+        },
+        four: Four {
+            count: 0,
+            at: [0; 4],
+        },
+        banks: Banks {
+            opened: [false; 8],
+            refpb: NEVER_EACH,
+            pre: NEVER_EACH,
+            act: NEVER_EACH,
+            rd: NEVER_EACH,
+            rda: NEVER_EACH,
+            wr: NEVER_NOTED_EACH,
+            wra: NEVER_NOTED_EACH,
+        },
+        ledger: Ledger {
+            at: 0,
+            owed: 8,
+            refreshed: 0,
+        },
+    }
+}

@@ -1,0 +1,88 @@
+// A record of each bank, moved on by one entry at a time.
+mod ending;
+mod fresh;
+mod sound;
+
+use card::Card;
+pub use ending::close;
+pub use fresh::fresh_record;
+use ledger::Ledger;
+
+// The stamp of an entry. That there is no such entry yet is a state of its own, since a stamp uses all 32 bits.
+pub struct Once {
+    pub seen: bool,
+    pub at: u32,
+}
+
+// The same with MR2 as it stood there.
+pub struct Noted {
+    pub seen: bool,
+    pub at: u32,
+    pub mr2: u8,
+}
+
+// One of each bank.
+pub struct Each {
+    pub seen: [bool; 8],
+    pub at: [u32; 8],
+}
+
+pub struct NotedEach {
+    pub seen: [bool; 8],
+    pub at: [u32; 8],
+    pub mr2: [u8; 8],
+}
+
+// The last four activations of all banks, the newest first; a count above 4 is read as 4.
+pub struct Four {
+    pub count: u8,
+    pub at: [u32; 4],
+}
+
+// The latest entries of all banks together.
+pub struct Latest {
+    pub mrw: Once,
+    pub mrr: Once,
+    pub refab: Once,
+    pub refpb: Once,
+    pub prea: Once,
+}
+
+// Those that use the data bus, of all banks together; `turn` is the latest RD or MRR.
+pub struct Bus {
+    pub rd: Once,
+    pub wr: Noted,
+    pub turn: Noted,
+}
+
+// The latest entries to each bank. A PRE counts where no later PRE-all came, and a PRE-all where no later PRE of the bank did.
+pub struct Banks {
+    pub opened: [bool; 8],
+    pub refpb: Each,
+    pub pre: Each,
+    pub act: Each,
+    pub rd: Each,
+    pub rda: Each,
+    pub wr: NotedEach,
+    pub wra: NotedEach,
+}
+
+pub struct Record {
+    pub card: Card,
+    pub mr2: u8,
+    pub counter: u8,
+    pub last: Once,
+    pub latest: Latest,
+    pub bus: Bus,
+    pub four: Four,
+    pub banks: Banks,
+    pub ledger: Ledger,
+}
+
+// What the end comes to: the ledger at E with 8 added, or 13, 5, or 11 with the rule and the first cycle that fails.
+pub enum Ended {
+    Paid(u8),
+    BadRecord,
+    Earlier,
+    Overdue { rule: u8, cycle: u64 },
+}
