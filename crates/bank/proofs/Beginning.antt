@@ -1,10 +1,9 @@
 -- A fresh record is the rules' fresh record.
 use Prim.Native.Nat.{ℕ, zero, suc}
 use mathlib.Core.Path.{_≡_, refl}
-use mathlib.Core.Bool.{Bool, false}
-use mathlib.Core.List.{List, []}
+use mathlib.Core.Bool.{false}
+use mathlib.Core.List.{[]}
 use lib.ListN.{getD, replicate}
-use Rattle.rules.specs.Folds.{Found}
 use Rattle.rules.specs.Delays.{
   Ask,
   lastMRW,

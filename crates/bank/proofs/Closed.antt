@@ -1,5 +1,5 @@
 -- The end offered to a record goes by the ledger that is moved on to it.
-use Prim.Native.Nat.{ℕ, _≤_, _<_}
+use Prim.Native.Nat.{ℕ}
 use mathlib.Core.Path.{_≡_, refl, ap, sym, _∙_}
 use mathlib.Core.Bool.{Bool, true, false, cond, _&&_}
 use mathlib.Core.Option.{Option, none, some}
@@ -17,7 +17,6 @@ use Rattle.ledger.specs.declared.Answer.the-variants.{Done, BadRecord, Earlier,
 use Rattle.ledger.specs.Values as ledger
 use Rattle.card.specs.Values.{cardOf}
 use Rattle.bank.specs.declared.Record.{Record}
-use Rattle.bank.specs.declared.Ended.{Ended}
 use Rattle.bank.specs.declared.Ended.the-variants as ends
 use Rattle.bank.specs.Values.{lastOf, lentOf, refusalOf, owingOf, endedOf, unlessRefused, Closes}
 

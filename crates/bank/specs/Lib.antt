@@ -1,3 +1,4 @@
--- The record of the code, read as the lent record of the rules.
+-- The record of the code, read as the lent record of the rules; clauses of 13; what an entry changes.
 pub mod Values
 pub mod Clauses
+pub mod After

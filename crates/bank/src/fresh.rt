@@ -1,6 +1,6 @@
 // The record before the first entry.
 ghost use mathlib.Core.Path.{_≡_};
-ghost use Rattle.bank.specs.Values.{never, neverNoted, neverEach, neverNotedEach, freshOf};
+ghost use Rattle.bank.specs.Values.{freshOf};
 use crate::Banks;
 use crate::Bus;
 use crate::Each;

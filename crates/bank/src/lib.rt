@@ -1,4 +1,5 @@
 // A record of each bank, moved on by one entry at a time.
+mod after;
 mod ending;
 mod fresh;
 mod sound;

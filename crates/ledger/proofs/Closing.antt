@@ -1,9 +1,9 @@
 -- The closed form that the code computes, against the account of the rules.
-use Prim.Native.Nat.{ℕ, suc, _+_, _-_, _*_, _/_, _≤_, _<_, _^_, max, min}
-use mathlib.Core.Path.{_≡_, refl, ap, sym, _∙_, subst}
+use Prim.Native.Nat.{ℕ, suc, _+_, _-_, _*_, _/_, _≤_, _<_, max, min}
+use mathlib.Core.Path.{_≡_, ap}
 use mathlib.Core.Logic.{⊎-elim}
 use mathlib.Core.Bool.{true, false, cond}
-use mathlib.Core.Option.{none, some}
+use mathlib.Core.Option.{some}
 use native.Mathlib.Nat.{min-eq-left, min-eq-right, div-mul-le-self, le-div-iff-mul-le, mul-le-mul-right, le-of-lt}
 use native.Mathlib.Omega.{arith}
 use lib.Dec.{leb}
@@ -14,7 +14,7 @@ use Rattle.rules.proofs.Tests.{le-cases}
 use Rattle.rules.proofs.Idle.{owedAt, next19, next20, after20, firstNext, idle-biased, idle-closed}
 use Rattle.ledger.specs.declared.account.Idle.{Idle}
 use Rattle.ledger.specs.declared.account.Idle.the-variants.{Stands, Breaks}
-use Rattle.ledger.specs.Values.{IdleArgs, Outcome, stands, breaks, outcome, idleTo}
+use Rattle.ledger.specs.Values.{IdleArgs, stands, breaks, outcome, idleTo}
 
 pub stands-tell : {x y : ℕ} → Path Idle (Stands x) (Stands y) → x ≡ y
 stands-tell e = cc

@@ -1,13 +1,12 @@
 -- An entry's own cycle, as its promise says it.
-use Prim.Native.Nat.{ℕ, zero, suc, _+_, _-_, _*_, _%_, _≤_, _<_}
+use Prim.Native.Nat.{ℕ, suc, _+_, _-_, _*_, _%_, _≤_, _<_}
 use mathlib.Core.Path.{_≡_, refl, ap, sym, _∙_, subst}
 use mathlib.Core.Bool.{Bool, true, false}
 use mathlib.Core.Option.{Option, none, some}
 use native.Mathlib.Omega.{arith}
 use lib.Dec.{eqb}
-use lib.IntN.{ℤ, subℕ}
+use lib.IntN.{subℕ}
 use borrow.Author.Tests.{le-leb, lt-leb, ne-eqb}
-use Rattle.rules.specs.Folds.{orElse}
 use Rattle.rules.specs.Account.{lpddr3, isDue, takeOne, idle}
 use Rattle.rules.specs.Checks.{Refusal, refusal, named}
 use Rattle.rules.specs.Lent.{ledgerTo, refreshedAt, failingTo, failingOf}
@@ -15,10 +14,9 @@ use Rattle.rules.specs.Lent as lent
 use Rattle.rules.proofs.Biased.{due, take-biased, cycle-biased, owing, failing-biased}
 use Rattle.rules.proofs.Ledgers.{none-failing-below, as-it-was}
 use Rattle.ledger.specs.declared.Ledger.{Ledger}
-use Rattle.ledger.specs.declared.Answer.{Answer}
-use Rattle.ledger.specs.declared.Answer.the-variants.{Done, Overdue}
+use Rattle.ledger.specs.declared.Answer.the-variants.{Done}
 use Rattle.ledger.specs.declared.After.{After}
-use Rattle.ledger.specs.Values.{ledgerOf, refusalOf, isNone, unlessRefused, Left, ReachArgs, NextArgs}
+use Rattle.ledger.specs.Values.{ledgerOf, refusalOf, isNone, unlessRefused, Left, NextArgs}
 
 -- what an answer that is a refusal, and one that is none, says of the promise
 pub refused-left : (o : Option Refusal) (old new : lent.Ledger) (r : After) → Left o old new r → isNone (refusalOf (r .answer)) ≡ false →

@@ -1,6 +1,6 @@
 -- The places of numbers on the pins, and the bytes of an entry, in the words of the code. proofs/Places.antt holds them against the rules.
 use Prim.Native.Nat.{ℕ, _+_, _*_, _/_, _%_}
-use mathlib.Core.Bool.{Bool, true, false, cond, not, _&&_, _||_}
+use mathlib.Core.Bool.{Bool, false, cond, not, _&&_, _||_}
 use mathlib.Core.List.{List, [], _∷_}
 use lib.Dec.{leb, eqb}
 use Rattle.rules.specs.Pins.{listedMA}

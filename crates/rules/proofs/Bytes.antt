@@ -1,15 +1,15 @@
 -- Numbers written in bytes are read back; an entry field that the writer puts is read as that entry.
 use Prim.Native.Nat.{ℕ, zero, suc, _+_, _*_, _/_, _%_, _^_, _<_}
-use mathlib.Core.Path.{_≡_, refl, ap, sym, _∙_}
-use mathlib.Core.Bool.{true, cond}
-use mathlib.Core.List.{List, [], _∷_, _++_}
-use native.Mathlib.Nat.{pow-zero, pow-succ', mod-one, mod-eq-of-lt, zero-add}
+use mathlib.Core.Path.{_≡_, _∙_}
+use mathlib.Core.Bool.{true}
+use mathlib.Core.List.{List, _++_}
+use native.Mathlib.Nat.{pow-zero, pow-succ', mod-one, mod-eq-of-lt}
 use native.Mathlib.Omega.{arith}
 use lib.Arith.{mod-mul}
-use lib.Dec.{lit<, leb}
+use lib.Dec.{lit<}
 use borrow.Author.Tests.{le-leb}
-use lib.ListN.{length, take, drop}
-use Rattle.rules.specs.Form.{numberFrom, number, Field, cardWhole, mayCome, lengths, _of_, isListed, lengthGood, Head, whole, valued, sized, headOf, entryOf}
+use lib.ListN.{length}
+use Rattle.rules.specs.Form.{numberFrom, number, Field, cardWhole, mayCome, lengths, _of_, isListed, lengthGood, whole, valued, sized, headOf, entryOf}
 use Rattle.rules.specs.Writer.{bigEndian, fieldBytes, entryBytes}
 
 pow-positive : (w : ℕ) → 0 < 256 ^ w

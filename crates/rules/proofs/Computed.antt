@@ -1,6 +1,6 @@
 -- The verdict of a file with the account in closed form: what is cheap to compute, equal to document 01's verdict.
-use Prim.Native.Nat.{ℕ, zero, suc, _+_, _<_, _≤_}
-use mathlib.Core.Path.{_≡_, refl, ap, sym, _∙_, subst}
+use Prim.Native.Nat.{ℕ, zero, suc, _+_, _<_}
+use mathlib.Core.Path.{_≡_, refl, ap, sym, _∙_}
 use mathlib.Core.Bool.{Bool, true, false, cond}
 use mathlib.Core.List.{List, [], _∷_}
 use mathlib.Core.Option.{Option, none, some}
@@ -13,7 +13,7 @@ use Rattle.rules.specs.Units.{interval}
 use Rattle.rules.specs.Past.{Past, isCounted, countedStamps, commandCount}
 use Rattle.rules.specs.Entries.{Entry, viewOf, read, taken}
 use Rattle.rules.specs.Folds.{orElse, firstOf}
-use Rattle.rules.specs.Account.{lpddr3, ledgerAfter, lastCounted, failingAt, firstFailing}
+use Rattle.rules.specs.Account.{lpddr3, ledgerAfter, lastCounted}
 use Rattle.rules.specs.Checks.{Refusal, unless, named, checks, above, notBelow, entryChecks, endChecks, entryRefusal, endRefusal}
 use Rattle.rules.specs.Form.{Field, sizeOf, Head, whole, cut, badTag, badLength, headOf, cardOf, fieldGood, entryOf, endOf}
 use Rattle.rules.specs.File.{
@@ -36,7 +36,7 @@ use Rattle.rules.specs.File.{
   judged,
 }
 use Rattle.rules.proofs.Tests.{some-none}
-use Rattle.rules.proofs.Biased.{owed, ledger-biased, owing, failingAt-biased}
+use Rattle.rules.proofs.Biased.{ledger-biased, owing, failingAt-biased}
 use Rattle.rules.proofs.Rounds.{Rising}
 use Rattle.rules.proofs.Decided.{above-iff}
 use Rattle.rules.proofs.Refreshed.{above-all}

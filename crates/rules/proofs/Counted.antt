@@ -1,6 +1,6 @@
 -- The ledger against the counts: over any stretch, dues less counted refreshes are at most the ledger's rise. So where the ledger keeps its limit,
 -- the counted refreshes of a stretch fall short of its intervals by at most limit and credit together.
-use Prim.Native.Nat.{ℕ, zero, suc, _+_, _*_, _-_, _/_, _≤_, _<_}
+use Prim.Native.Nat.{ℕ, zero, suc, _+_, _-_, _/_, _≤_, _<_}
 use mathlib.Core.Path.{_≡_, refl}
 use mathlib.Core.Logic.{_⊎_, inl, inr, ⊎-elim}
 use mathlib.Core.Bool.{true, false, cond, _&&_, _||_}
@@ -12,7 +12,7 @@ use borrow.Author.Tests.{lt-ltb, le-leb, lt-leb, ne-eqb}
 use Rattle.rules.specs.Lists.{isOneOf}
 use Rattle.rules.specs.Stretch.{countIn}
 use Rattle.rules.proofs.Tests.{lt-cases, eq-cases}
-use Rattle.rules.proofs.Biased.{due, owed}
+use Rattle.rules.proofs.Biased.{owed}
 use Rattle.rules.proofs.Dues.{dues, dues-later, dues-first}
 
 -- the stamps below n

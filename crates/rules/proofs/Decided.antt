@@ -1,5 +1,5 @@
 -- Each computed check decides the check that is read: it gives no refusal exactly where that passes, and this refusal exactly where that fails so.
-use Prim.Native.Nat.{ℕ, zero, suc, _+_, _*_, _-_, _≤_, _<_}
+use Prim.Native.Nat.{ℕ, zero, suc, _*_, _-_, _≤_, _<_}
 use mathlib.Core.Path.{_≡_, refl, ap, sym, _∙_, subst}
 use mathlib.Core.Logic.{_⊎_, inl, inr, ⊎-elim, _↔_}
 use mathlib.Core.Bool.{Bool, true, false, not}
@@ -9,7 +9,7 @@ use native.Mathlib.Omega.{arith}
 use lib.Dec.{T, leb, ltb}
 use lib.IntN.{ℤ, pos}
 use lib.Signed.{leZ, _≤ℤ_}
-use borrow.Author.Tests.{ltb-true, lt-ltb, leb-true, le-leb, lt-leb}
+use borrow.Author.Tests.{ltb-true, lt-ltb, leb-true, le-leb}
 use Rattle.rules.specs.Lists.{Every}
 use Rattle.rules.specs.Pins.{Decoded, good, wrongBits, reserved}
 use Rattle.rules.specs.Past.{Past}
@@ -24,7 +24,6 @@ use Rattle.rules.specs.Reading.{
   Above,
   NotBelow,
   Holds,
-  FirstPermitted,
   FirstBroken,
   inTime,
   WithinLimit,

@@ -1,9 +1,9 @@
 -- The dues: the positive multiples of I among the cycles below n, in closed form.
 use Prim.Native.Nat.{ℕ, zero, suc, _+_, _*_, _-_, _/_, _%_, _≤_, _<_}
-use mathlib.Core.Path.{_≡_, refl, ap, _∙_}
+use mathlib.Core.Path.{_≡_, ap, _∙_}
 use mathlib.Core.Logic.{⊎-elim, _↔_}
 use mathlib.Core.Bool.{true, false, cond}
-use native.Mathlib.Nat.{add-suc, suc-add, div-add-mod', mod-lt, zero-div, div-mul-le-self, le-div-iff-mul-le, add-mul}
+use native.Mathlib.Nat.{suc-add, div-add-mod', mod-lt, zero-div, div-mul-le-self, le-div-iff-mul-le, add-mul}
 use native.Mathlib.Omega.{arith}
 use lib.Arith.{digits-div, digits-mod}
 use lib.Dec.{ltb, eqb}

@@ -1,20 +1,20 @@
 -- Demand 2 over the list: the verdict and its reading in propositions.
-use Prim.Native.Nat.{ℕ, zero, suc, _+_, _≤_, _<_}
+use Prim.Native.Nat.{ℕ, zero, suc, _+_, _<_}
 use mathlib.Core.Path.{_≡_, refl, ap, sym, _∙_, subst}
 use mathlib.Core.Logic.{_⊎_, inl, inr, ⊎-elim, _↔_}
 use mathlib.Core.List.{List, [], _∷_}
 use mathlib.Core.Option.{Option, none, some}
 use native.Mathlib.Omega.{arith}
 use lib.IntN.{ℤ}
-use lib.ListN.{length, take, getD}
+use lib.ListN.{length}
 use Rattle.rules.specs.Card.{Card}
 use Rattle.rules.specs.Units.{interval, delaysOf}
-use Rattle.rules.specs.Past.{Past, counterAt, countedStamps, commandCount}
+use Rattle.rules.specs.Past.{Past, counterAt, countedStamps}
 use Rattle.rules.specs.Entries.{Entry, viewOf, read, taken, pastOver}
 use Rattle.rules.specs.Delays.{find, delayRules}
-use Rattle.rules.specs.Account.{lpddr3, ledgerAfter}
+use Rattle.rules.specs.Account.{lpddr3}
 use Rattle.rules.specs.Checks.{Refusal, checks, entryChecks, endChecks, entryRefusal, endRefusal}
-use Rattle.rules.specs.Verdict.{Verdict, accepted, refused, atEnd, judgeFrom, judge}
+use Rattle.rules.specs.Verdict.{accepted, refused, atEnd, judgeFrom, judge}
 use Rattle.rules.specs.Reading.{AllPass, FirstFails, entryReads, endReads, readsAt, Accepts, Refuses}
 use Rattle.rules.proofs.Tests.{nowhere}
 use Rattle.rules.proofs.Decided.{

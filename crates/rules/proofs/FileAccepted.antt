@@ -13,12 +13,11 @@ use Rattle.rules.specs.Card.{Card}
 use Rattle.rules.specs.Units.{interval}
 use Rattle.rules.specs.Past.{Past, refreshStamps}
 use Rattle.rules.specs.Entries.{pastOf}
-use Rattle.rules.specs.Verdict.{Verdict}
 use Rattle.rules.specs.Reading.{AllPass, endReads}
 use Rattle.rules.specs.Stretch.{countIn, Took}
 use Rattle.rules.specs.Form.{Field, bytesOf, cardWhole, cardOf, entryOf, endOf}
 use Rattle.rules.specs.File.{FileVerdict, acceptedAt, judgeFile}
-use Rattle.rules.specs.FileReading.{RightForm, CardRight, cardBytes, entriesBytes, EntryField, Ends, Says, AcceptedFile}
+use Rattle.rules.specs.FileReading.{RightForm, cardBytes, entriesBytes, Ends, Says, AcceptedFile}
 use Rattle.rules.proofs.Exactly.{accepted-iff}
 use Rattle.rules.proofs.Refreshed.{refreshed}
 use Rattle.rules.proofs.Groups.{every-group, in-a-row}

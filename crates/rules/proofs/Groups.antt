@@ -1,7 +1,7 @@
 -- Demand 3's consequence: where each refresh of a bank takes the next of its R row groups in turn, from any first group, every row group is taken in
 -- every stretch of (R + 17)·I cycles of an accepted trace, and two takings of one group in a row are at most that far apart.
-use Prim.Native.Nat.{ℕ, zero, suc, _+_, _*_, _-_, _/_, _%_, _≤_, _<_}
-use mathlib.Core.Path.{_≡_, refl, ap, sym, _∙_, subst}
+use Prim.Native.Nat.{ℕ, suc, _+_, _*_, _-_, _/_, _%_, _≤_, _<_}
+use mathlib.Core.Path.{_≡_, refl, ap, _∙_, subst}
 use mathlib.Core.Logic.{_⊎_, inl, inr, ⊎-elim}
 use mathlib.Core.Bool.{Bool, true, false, cond}
 use mathlib.Core.List.{List, [], _∷_}
@@ -21,7 +21,7 @@ use Rattle.rules.specs.Stretch.{countIn, Took}
 use Rattle.rules.proofs.Tests.{lt-cases, le-cases, eq-cases}
 use Rattle.rules.proofs.Counted.{below, count-below}
 use Rattle.rules.proofs.Rounds.{AllBelow, Rising}
-use Rattle.rules.proofs.Refreshed.{Trace, traced, refreshed}
+use Rattle.rules.proofs.Refreshed.{traced, refreshed}
 
 -- stamps that fall along the list
 unfoldable pub Less : ℕ → List ℕ → Type 0

@@ -1,6 +1,6 @@
 -- The round counter passes every bank between two counted refreshes: in any stretch of a trace whose stamps rise, each bank is refreshed at least as
 -- often as refreshes are counted, less one. What is kept: counted + (1 if the counter is past the bank) ≤ refreshes of the bank + 1.
-use Prim.Native.Nat.{ℕ, zero, suc, _+_, _≤_, _<_}
+use Prim.Native.Nat.{ℕ, suc, _+_, _≤_, _<_}
 use mathlib.Core.Path.{_≡_, refl, _∙_}
 use mathlib.Core.Logic.{⊎-elim}
 use mathlib.Core.Bool.{Bool, true, false, cond, _&&_, _||_}

@@ -91,7 +91,7 @@ use Rattle.rules.specs.Form.{
   entryOf,
   endOf,
 }
-use Rattle.rules.specs.File.{Judged, orRefused, cardStep, closing, judged, judgeFile}
+use Rattle.rules.specs.File.{Judged, orRefused, cardStep, closing, judgeFile}
 use Rattle.rules.specs.Writer.{bigEndian, fieldBytes, entryBytes}
 use Rattle.rules.specs.Lines.{digits, decimal, signed, nameOf, showsBank, entryLine, entryLines, verdictLine, linesOf}
 use Rattle.rules.specs.Bench.{

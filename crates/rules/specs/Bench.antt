@@ -5,7 +5,6 @@ use mathlib.Core.Bool.{true, false}
 use mathlib.Core.List.{List, [], _∷_, _++_}
 use lib.IntN.{pos, negsuc}
 use lib.ListN.{take}
-use Rattle.rules.specs.Lists.{Every}
 use Rattle.rules.specs.Card.{Timing, Card}
 use Rattle.rules.specs.Commands.{Command, mrw, refab, act, rd, wr, pre, prea}
 use Rattle.rules.specs.Pins.{good, decode, encode}

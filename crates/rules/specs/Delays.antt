@@ -10,7 +10,7 @@ use Rattle.rules.specs.Card.{Card}
 use Rattle.rules.specs.Units.{Delays}
 use Rattle.rules.specs.Commands.{Kind, NOP, MRW, MRR, REFPB, REFAB, ACT, RD, WR, PRE, PREA, Command, is, bankOf, apOf, banks}
 use Rattle.rules.specs.Registers.{rlOf, wlOf}
-use Rattle.rules.specs.Past.{Taken, Past, mr2At, counterAt, bankAt, precharges}
+use Rattle.rules.specs.Past.{Past, mr2At, counterAt, bankAt, precharges}
 use Rattle.rules.specs.Folds.{Found, Source, Rule, back}
 
 -- ---- questions

@@ -1,7 +1,7 @@
 -- What stands after the entries that were taken: mode register 2, open banks, the round counter, the counted refreshes and the refreshes of a bank
 -- (document 01, "Bank states", "The refresh account"). All are functions of the list alone.
-use Prim.Native.Nat.{ℕ, zero, suc}
-use mathlib.Core.Bool.{Bool, true, false, cond, not, _&&_, _||_}
+use Prim.Native.Nat.{ℕ, suc}
+use mathlib.Core.Bool.{Bool, true, false, cond, _&&_, _||_}
 use mathlib.Core.List.{List, [], _∷_}
 use lib.Dec.{eqb}
 use Rattle.rules.specs.Card.{Card}

@@ -1,5 +1,4 @@
 -- The answer is no refusal.
-use mathlib.Core.Path.{sym, ap, _∙_}
 use borrow.Author.Needs.{needs}
 use Rattle.ledger.specs.Values.{refusalOf, isNone}
 use Rattle.ledger.proofs.entering.done.Statement.{statement}

@@ -1,5 +1,4 @@
 -- What falls due at the next cycle.
-use mathlib.Core.Path.{sym}
 use native.Mathlib.Omega.{arith}
 use borrow.Author.Needs.{needs}
 use Rattle.ledger.proofs.Enters.{due-here, not-here, next-is}

@@ -1,0 +1,40 @@
+-- The lengths of a record's arrays, which every record in the code has.
+use Prim.Native.Nat.{ℕ}
+use mathlib.Core.Path.{_≡_, sym, _∙_}
+use mathlib.Core.Bool.{Bool}
+use mathlib.Core.List.{List, map}
+use lib.ListN.{length, length-map}
+use Rattle.bank.specs.declared.Each.{Each}
+use Rattle.bank.specs.declared.NotedEach.{NotedEach}
+use Rattle.bank.specs.declared.Record.{Record}
+
+-- as owning an array tells it
+pub held : {A : Type 0} (xs : List A) {n : ℕ} → length (map (λ (v : A). v) xs) ≡ n → length xs ≡ n
+held xs e = sym (length-map xs (λ v. v)) ∙ e
+
+pub record EachWhole (x : Each) : Type 0 where
+  pub seen : length (x .seen) ≡ 8
+  pub at : length (x .at) ≡ 8
+
+pub record NotedWhole (x : NotedEach) : Type 0 where
+  pub seen : length (x .seen) ≡ 8
+  pub at : length (x .at) ≡ 8
+  pub mr2 : length (x .mr2) ≡ 8
+
+pub each-whole : (x : Each) → length (map (λ (v : Bool). v) (x .seen)) ≡ 8 → length (map (λ (v : ℕ). v) (x .at)) ≡ 8 → EachWhole x
+each-whole x s a = record { seen = held (x .seen) s; at = held (x .at) a }
+
+pub noted-whole : (x : NotedEach) → length (map (λ (v : Bool). v) (x .seen)) ≡ 8 → length (map (λ (v : ℕ). v) (x .at)) ≡ 8
+    → length (map (λ (v : ℕ). v) (x .mr2)) ≡ 8 → NotedWhole x
+noted-whole x s a m = record { seen = held (x .seen) s; at = held (x .at) a; mr2 = held (x .mr2) m }
+
+pub record Whole (r : Record) : Type 0 where
+  pub four : length (r .four .at) ≡ 4
+  pub opened : length (r .banks .opened) ≡ 8
+  pub refpb : EachWhole (r .banks .refpb)
+  pub pre : EachWhole (r .banks .pre)
+  pub act : EachWhole (r .banks .act)
+  pub rd : EachWhole (r .banks .rd)
+  pub rda : EachWhole (r .banks .rda)
+  pub wr : NotedWhole (r .banks .wr)
+  pub wra : NotedWhole (r .banks .wra)

@@ -1,0 +1,170 @@
+-- What an entry that was taken changes: in the record of the rules, and in that of the code.
+use Prim.Native.Nat.{ℕ, _+_, _≤_}
+use mathlib.Core.Path.{_≡_}
+use mathlib.Core.Bool.{Bool, true, false, cond, _&&_, _||_}
+use mathlib.Core.List.{List, [], _∷_}
+use mathlib.Core.Option.{some}
+use lib.Dec.{leb}
+use lib.ListN.{getD, set, replicate}
+use Rattle.rules.specs.Commands as rules
+use Rattle.rules.specs.Commands.{MRW, MRR, REFPB, REFAB, ACT, RD, WR, PRE, PREA, is, bankOf, apOf}
+use Rattle.rules.specs.Past.{registerAfter, counterAfter, openAfter, bankAt}
+use Rattle.rules.specs.Lent as lent
+use Rattle.ledger.specs.declared.Ledger.{Ledger}
+use Rattle.bank.specs.Values.{lentOf}
+use Rattle.bank.specs.declared.Once.{Once}
+use Rattle.bank.specs.declared.Noted.{Noted}
+use Rattle.bank.specs.declared.Each.{Each}
+use Rattle.bank.specs.declared.NotedEach.{NotedEach}
+use Rattle.bank.specs.declared.Four.{Four}
+use Rattle.bank.specs.declared.Latest.{Latest}
+use Rattle.bank.specs.declared.Bus.{Bus}
+use Rattle.bank.specs.declared.Banks.{Banks}
+use Rattle.bank.specs.declared.Record.{Record}
+
+-- the lent record after a command that was taken, with this ledger
+unfoldable pub afterCommand : lent.Lent → rules.Command → (stamp : ℕ) → lent.Ledger → lent.Lent
+afterCommand l c t g = record {
+  card = l .card;
+  mr2 = registerAfter 2 c (l .mr2);
+  open? = λ b. openAfter b c (l .open? b);
+  counter = counterAfter c (l .counter);
+  last = some t;
+  history = lent.historyAfter c (l .counter) t (l .mr2) (l .history);
+  ledger = g;
+}
+
+-- what a sound record and a rising stamp give; a command that was decoded has no bank above 7
+pub record AfterArgs (r : Record) (stamp : ℕ) (c : rules.Command) : Type 0 where
+  pub stamps : lent.stampsGood (lentOf r) ≡ true
+  pub rising : lent.aboveLast (lentOf r .last) stamp ≡ true
+  pub counter : r .counter ≤ 7
+  pub bank : bankOf c ≤ 7
+
+-- ---- one stamp, a stamp of one bank, and the last four
+abbrev pub onceAt : ℕ → Once
+onceAt t = record { seen = true; at = t }
+
+unfoldable pub onceIf : Bool → ℕ → Once → Once
+onceIf now t x = cond now (onceAt t) x
+
+abbrev pub notedAt : (t mr2 : ℕ) → Noted
+notedAt t m = record { seen = true; at = t; mr2 = m }
+
+unfoldable pub notedIf : Bool → (t mr2 : ℕ) → Noted → Noted
+notedIf now t m x = cond now (notedAt t m) x
+
+-- a place that the list does not have changes nothing
+abbrev pub putEach : (bank t : ℕ) → Each → Each
+putEach k t x = record { seen = set (x .seen) k true; at = set (x .at) k t }
+
+unfoldable pub eachIf : Bool → (bank t : ℕ) → Each → Each
+eachIf now k t x = cond now (putEach k t x) x
+
+abbrev pub putNoted : (bank t mr2 : ℕ) → NotedEach → NotedEach
+putNoted k t m x = record { seen = set (x .seen) k true; at = set (x .at) k t; mr2 = set (x .mr2) k m }
+
+unfoldable pub notedEachIf : Bool → (bank t mr2 : ℕ) → NotedEach → NotedEach
+notedEachIf now k t m x = cond now (putNoted k t m x) x
+
+abbrev pub shifted : ℕ → List ℕ → List ℕ
+shifted t at = t ∷ getD at 0 0 ∷ getD at 1 0 ∷ getD at 2 0 ∷ []
+
+unfoldable pub pushedOn : ℕ → Four → Four
+pushedOn t x = record { count = cond (leb 4 (x .count)) 4 (x .count + 1); at = shifted t (x .at) }
+
+-- ---- the parts of the record
+unfoldable pub fourAfter : rules.Command → (stamp : ℕ) → Four → Four
+fourAfter c t x = cond (is ACT c || is REFPB c) (pushedOn t x) x
+
+unfoldable pub latestAfter : rules.Command → (stamp : ℕ) → Latest → Latest
+latestAfter c t x = record {
+  mrw = onceIf (is MRW c) t (x .mrw);
+  mrr = onceIf (is MRR c) t (x .mrr);
+  refab = onceIf (is REFAB c) t (x .refab);
+  refpb = onceIf (is REFPB c) t (x .refpb);
+  prea = onceIf (is PREA c) t (x .prea);
+}
+
+unfoldable pub busAfter : rules.Command → (stamp mr2 : ℕ) → Bus → Bus
+busAfter c t m x = record {
+  rd = onceIf (is RD c) t (x .rd);
+  wr = notedIf (is WR c) t m (x .wr);
+  turn = notedIf (is RD c || is MRR c) t m (x .turn);
+}
+
+-- PRE of one bank, and AP
+unfoldable pub shuts : rules.Command → Bool
+shuts c = is PRE c || ((is RD c || is WR c) && apOf c)
+
+unfoldable pub openedAfter : rules.Command → List Bool → List Bool
+openedAfter c o =
+    let cleared = cond (is PREA c) (replicate 8 false) o in
+    let shut = cond (shuts c) (set cleared (bankOf c) false) cleared in
+    cond (is ACT c) (set shut (bankOf c) true) shut
+
+unfoldable pub readOn : (bank : ℕ) → (ap : Bool) → (stamp : ℕ) → Banks → Banks
+readOn k ap t x = record {
+  opened = x .opened;
+  refpb = x .refpb;
+  pre = x .pre;
+  act = x .act;
+  rd = putEach k t (x .rd);
+  rda = eachIf ap k t (x .rda);
+  wr = x .wr;
+  wra = x .wra;
+}
+
+unfoldable pub writtenOn : (bank : ℕ) → (ap : Bool) → (stamp mr2 : ℕ) → Banks → Banks
+writtenOn k ap t m x = record {
+  opened = x .opened;
+  refpb = x .refpb;
+  pre = x .pre;
+  act = x .act;
+  rd = x .rd;
+  rda = x .rda;
+  wr = putNoted k t m (x .wr);
+  wra = notedEachIf ap k t m (x .wra);
+}
+
+-- the stamps of each bank alone
+unfoldable pub stampedAfter : rules.Command → (counter stamp mr2 : ℕ) → Banks → Banks
+stampedAfter c n t m x =
+    let k = bankAt c n in
+    record {
+      opened = x .opened;
+      refpb = eachIf (is REFPB c) k t (x .refpb);
+      pre = eachIf (is PRE c) (bankOf c) t (x .pre);
+      act = eachIf (is ACT c) k t (x .act);
+      rd = eachIf (is RD c) k t (x .rd);
+      rda = eachIf (is RD c && apOf c) k t (x .rda);
+      wr = notedEachIf (is WR c) k t m (x .wr);
+      wra = notedEachIf (is WR c && apOf c) k t m (x .wra);
+    }
+
+unfoldable pub banksAfter : rules.Command → (counter stamp mr2 : ℕ) → Banks → Banks
+banksAfter c n t m x =
+    let y = stampedAfter c n t m x in
+    record {
+      opened = openedAfter c (x .opened);
+      refpb = y .refpb;
+      pre = y .pre;
+      act = y .act;
+      rd = y .rd;
+      rda = y .rda;
+      wr = y .wr;
+      wra = y .wra;
+    }
+
+unfoldable pub recordAfter : Record → rules.Command → (stamp : ℕ) → Ledger → Record
+recordAfter r c t g = record {
+  card = r .card;
+  mr2 = registerAfter 2 c (r .mr2);
+  counter = counterAfter c (r .counter);
+  last = onceAt t;
+  latest = latestAfter c t (r .latest);
+  bus = busAfter c t (r .mr2) (r .bus);
+  four = fourAfter c t (r .four);
+  banks = banksAfter c (r .counter) t (r .mr2) (r .banks);
+  ledger = g;
+}
