@@ -50,7 +50,7 @@ use Rattle.bank.specs.declared.Once.{Once}
 use Rattle.bank.specs.declared.Record.{Record}
 use Rattle.bank.proofs.Sizes.{Whole}
 use Rattle.bank.proofs.Places.{opened-after, four-after}
-use Rattle.bank.proofs.Precharged.{pre-after, prea-after, pre-below, prea-below}
+use Rattle.bank.proofs.Precharged.{both-after, pre-below, prea-below}
 use Rattle.bank.proofs.Remembered.{once-after, noted-after, each-seen, each-at, each-after, notedEach-after, one-precharge, bank-low}
 
 -- nothing is decoded in `afterCommand`
@@ -89,10 +89,11 @@ module _ (r : Record) (c : Command) (t : ℕ) (g : Ledger) (w : Whole r) (a : Af
   low : bankAt c (r .counter) ≤ 7
   low = bank-low c (r .counter) (a .counter) (a .bank)
 
-  pre-is : (b : ℕ)
-      → preOf (recordAfter r c t g) b ≡ cond (precharges b c) (cond (is PRE c) (entry t 0 ∷ []) []) (preOf r b)
-  unfolding preOf each recordAfter latestAfter banksAfter stampedAfter precharges
-  pre-is b =
+  precharges-are : (b : ℕ)
+      → (preOf (recordAfter r c t g) b ≡ cond (precharges b c) (cond (is PRE c) (entry t 0 ∷ []) []) (preOf r b))
+      × (preaOf (recordAfter r c t g) b ≡ cond (precharges b c) (cond (is PREA c) (entry t 0 ∷ []) []) (preaOf r b))
+  unfolding preOf preaOf each once recordAfter latestAfter banksAfter stampedAfter precharges
+  precharges-are b =
       let p = r .banks .pre in
       let x = r .latest .prea in
       rw (
@@ -101,23 +102,7 @@ module _ (r : Record) (c : Command) (t : ℕ) (g : Ledger) (w : Whole r) (a : Af
         once-seen (is PREA c) t x,
         once-stamp (is PREA c) t x,
       )
-      (pre-after t (getD (p .at) b 0) (x .at) (is PREA c) (is PRE c) (eqb (bankOf c) b) (getD (p .seen) b false) (x .seen) (one-precharge c)
-      (pre-below r t w (a .stamps) (a .rising) b)
-      (prea-below r t w (a .stamps) (a .rising)))
-
-  prea-is : (b : ℕ)
-      → preaOf (recordAfter r c t g) b ≡ cond (precharges b c) (cond (is PREA c) (entry t 0 ∷ []) []) (preaOf r b)
-  unfolding preaOf once recordAfter latestAfter banksAfter stampedAfter precharges
-  prea-is b =
-      let p = r .banks .pre in
-      let x = r .latest .prea in
-      rw (
-        each-seen (is PRE c) (bankOf c) t b p (a .bank) (w .pre),
-        each-at (is PRE c) (bankOf c) t b p (a .bank) (w .pre),
-        once-seen (is PREA c) t x,
-        once-stamp (is PREA c) t x,
-      )
-      (prea-after t (getD (p .at) b 0) (x .at) (is PREA c) (is PRE c) (eqb (bankOf c) b) (getD (p .seen) b false) (x .seen) (one-precharge c)
+      (both-after t (getD (p .at) b 0) (x .at) (is PREA c) (is PRE c) (eqb (bankOf c) b) (getD (p .seen) b false) (x .seen) (one-precharge c)
       (pre-below r t w (a .stamps) (a .rising) b)
       (prea-below r t w (a .stamps) (a .rising)))
 
@@ -129,8 +114,8 @@ module _ (r : Record) (c : Command) (t : ℕ) (g : Ledger) (w : Whole r) (a : Af
   remembers lastREFab b = once-after (is REFAB c) t (r .latest .refab)
   remembers lastREFpb b = once-after (is REFPB c) t (r .latest .refpb)
   remembers lastREFpb-to b = each-after (is REFPB c) (bankAt c (r .counter)) t b (r .banks .refpb) low (w .refpb)
-  remembers lastPRE-to b = pre-is b
-  remembers lastPREA-to b = prea-is b
+  remembers lastPRE-to b = precharges-are b .0
+  remembers lastPREA-to b = precharges-are b .1
   remembers lastACT-to b = each-after (is ACT c) (bankAt c (r .counter)) t b (r .banks .act) low (w .act)
   remembers fourthLast b = four-after (is ACT c || is REFPB c) t (r .four) (w .four)
   remembers lastRD b = once-after (is RD c) t (r .bus .rd)

@@ -14,9 +14,11 @@ use Rattle.rules.specs.Folds.{Found}
 use Rattle.rules.specs.Commands.{banks}
 use Rattle.rules.specs.Delays.{lastPRE-to}
 use Rattle.rules.specs.Lent.{History, asks, allStored, notAbove, aboveLast, stampsGood}
+use Rattle.rules.proofs.Onward.{at-each}
 use Rattle.rules.proofs.Tests.{lt-cases, both-true}
 use Rattle.bank.specs.Values.{entry, kept, once, each, outweighed, preOf, preaOf, asked, lentOf}
 use Rattle.bank.specs.declared.Record.{Record}
+use Rattle.bank.proofs.Stored.{all-onward}
 use Rattle.bank.proofs.Sizes.{Whole}
 
 -- this one, unless the other came later
@@ -26,31 +28,26 @@ shown s p r u = cond (outweighed s r p u) [] (kept s p 0)
 false-true : {A : Type 0} → false ≡ true → A
 false-true e = absurd (let z : _≡_ {A = ℕ} 0 1 = cc in omega arith)
 
--- PRE-all comes where z holds, PRE where q holds, of the bank where e holds
-module _ (t p u : ℕ) where
-  pub pre-after : (z q e s r : Bool) → (z && q) ≡ false → (s ≡ true → p < t) → (r ≡ true → u < t)
-      → shown (cond (q && e) true s) (cond (q && e) t p) (cond z true r) (cond z t u)
-      ≡ cond (z || (q && e)) (cond q (entry t 0 ∷ []) []) (shown s p r u)
-  unfolding outweighed kept
-  pre-after false false e s r x f g = refl
-  pre-after false true false s r x f g = refl
-  pre-after false true true s false x f g = refl
-  pre-after false true true s true x f g = rw (le-ltb t u (omega (arith, g refl)))
-  pre-after true false e false r x f g = refl
-  pre-after true false e true r x f g = rw (lt-ltb p t (f refl))
-  pre-after true true e s r x f g = false-true (sym x)
+-- the first comes now where x holds, the other where y holds
+shown-after : (t p u : ℕ) (x y s r : Bool) → (x && y) ≡ false → (s ≡ true → p < t) → (r ≡ true → u < t)
+    → shown (cond x true s) (cond x t p) (cond y true r) (cond y t u) ≡ cond (x || y) (cond x (entry t 0 ∷ []) []) (shown s p r u)
+unfolding outweighed kept
+shown-after t p u false false s r n f g = refl
+shown-after t p u true false s false n f g = refl
+shown-after t p u true false s true n f g = rw (le-ltb t u (omega (arith, g refl)))
+shown-after t p u false true false r n f g = refl
+shown-after t p u false true true r n f g = rw (lt-ltb p t (f refl))
+shown-after t p u true true s r n f g = false-true (sym n)
 
-  pub prea-after : (z q e s r : Bool) → (z && q) ≡ false → (s ≡ true → p < t) → (r ≡ true → u < t)
-      → shown (cond z true r) (cond z t u) (cond (q && e) true s) (cond (q && e) t p)
-      ≡ cond (z || (q && e)) (cond z (entry t 0 ∷ []) []) (shown r u s p)
-  unfolding outweighed kept
-  prea-after false false e s r x f g = refl
-  prea-after false true false s r x f g = refl
-  prea-after false true true s false x f g = refl
-  prea-after false true true s true x f g = rw (lt-ltb u t (g refl))
-  prea-after true false e false r x f g = refl
-  prea-after true false e true r x f g = rw (le-ltb t p (omega (arith, f refl)))
-  prea-after true true e s r x f g = false-true (sym x)
+-- PRE-all comes where z holds, PRE where q holds, of the bank where e holds
+pub both-after : (t p u : ℕ) (z q e s r : Bool) → (z && q) ≡ false → (s ≡ true → p < t) → (r ≡ true → u < t)
+    → (shown (cond (q && e) true s) (cond (q && e) t p) (cond z true r) (cond z t u) ≡ cond (z || (q && e)) (cond q (entry t 0 ∷ []) []) (shown s p r u))
+    × (shown (cond z true r) (cond z t u) (cond (q && e) true s) (cond (q && e) t p) ≡ cond (z || (q && e)) (cond z (entry t 0 ∷ []) []) (shown r u s p))
+both-after t p u false false e s r n f g = (refl, refl)
+both-after t p u false true false s r n f g = (refl, refl)
+both-after t p u false true true s r n f g = (shown-after t p u true false s r refl f g, shown-after t u p false true r s refl g f)
+both-after t p u true false e s r n f g = (shown-after t p u false true s r refl f g, shown-after t u p true false r s refl g f)
+both-after t p u true true e s r n f g = false-true (sym n)
 
 -- ---- what is kept is below a rising stamp
 all-at : {A : Type 0} (p : A → Bool) (l : List A) (i : ℕ) (d : A) → i < length l → all p l ≡ true → p (getD l i d) ≡ true
@@ -58,18 +55,6 @@ unfolding all
 all-at p [] i d h e = absurd (omega arith)
 all-at p (x ∷ l) zero d h e = both-true (p x) (all p l) e .0
 all-at p (x ∷ l) (suc i) d h e = all-at p l i d (omega arith) (both-true (p x) (all p l) e .1)
-
-bank-place : (b : ℕ) → b < 8 → getD banks b 0 ≡ b
-unfolding banks
-bank-place zero h = refl
-bank-place (suc zero) h = refl
-bank-place (suc (suc zero)) h = refl
-bank-place (suc (suc (suc zero))) h = refl
-bank-place (suc (suc (suc (suc zero)))) h = refl
-bank-place (suc (suc (suc (suc (suc zero))))) h = refl
-bank-place (suc (suc (suc (suc (suc (suc zero)))))) h = refl
-bank-place (suc (suc (suc (suc (suc (suc (suc zero))))))) h = refl
-bank-place (suc (suc (suc (suc (suc (suc (suc (suc b)))))))) h = absurd (omega arith)
 
 rising-stamp : (last : Option ℕ) (s t : ℕ) → notAbove last s ≡ true → aboveLast last t ≡ true → s < t
 unfolding notAbove aboveLast
@@ -105,8 +90,7 @@ module _ (r : Record) (t : ℕ) (w : Whole r) (good : stampsGood (lentOf r) ≡ 
       let P : Found ℕ → Bool = λ f. notAbove (lentOf r .last) (f .stamp) in
       let h : History = lentOf r .history in
       let inner = all-at (λ a. all (λ k. all P (h (record { ask = a; bank = k }))) banks) asks i lastPRE-to hi good in
-      subst (λ (k : ℕ). all P (h (record { ask = getD asks i lastPRE-to; bank = k })) ≡ true) (bank-place b hb)
-      (all-at (λ k. all P (h (record { ask = getD asks i lastPRE-to; bank = k }))) banks b 0 (unfold banks in omega arith) inner)
+      at-each (λ k. all P (h (record { ask = getD asks i lastPRE-to; bank = k }))) 0 8 (sym (all-onward _) ∙ inner) b (omega arith) (omega arith)
 
   below-at : (b : ℕ) → b < 8
       → (getD (r .banks .pre .seen) b false ≡ true → getD (r .banks .pre .at) b 0 < t) × (r .latest .prea .seen ≡ true → r .latest .prea .at < t)

@@ -6,7 +6,6 @@ use mathlib.Core.Bool.{Bool, true, false, cond, _&&_}
 use mathlib.Core.List.{List, [], _∷_}
 use mathlib.Core.Option.{none, some}
 use native.Mathlib.Omega.{arith}
-use native.Mathlib.Numerals.{add-one}
 use lib.Dec.{leb, ltb}
 use lib.ListN.{length, getD}
 use borrow.Author.Tests.{lt-ltb, le-ltb, le-leb}
@@ -39,6 +38,7 @@ use Rattle.rules.specs.Delays.{
   means,
 }
 use Rattle.rules.specs.Lent.{asks, allStored, mr2sGood, notAbove, stampsGood}
+use Rattle.rules.proofs.Onward.{onward}
 use Rattle.rules.proofs.Tests.{lt-cases, le-cases}
 use Rattle.card.specs.Values.{cardOf}
 use Rattle.bank.specs.declared.Once.{Once}
@@ -73,20 +73,9 @@ and-swap true false false d = refl
 and-swap false b c d = refl
 
 -- ---- a test at each bank
--- at n numbers from i on
-unfoldable pub onward : (ℕ → Bool) → ℕ → ℕ → Bool
-onward p i zero = true
-onward p i (suc n) = p i && onward p (suc i) n
-
 pub all-onward : (p : ℕ → Bool) → all p banks ≡ onward p 0 8
 unfolding onward all banks
 all-onward p = refl
-
-pub onward-next : (p : ℕ → Bool) (n i : ℕ) → i < n → onward p i (n - i) ≡ (p i && onward p (i + 1) (n - (i + 1)))
-unfolding onward
-onward-next p n i h =
-    let e : n - i ≡ suc (n - (i + 1)) = omega arith in
-    rw (e, add-one)
 
 all-const : (a : Bool) → all (λ b. a) banks ≡ a
 unfolding all banks

@@ -27,7 +27,6 @@ use Rattle.rules.specs.Delays.{
   lastWR-to,
   lastWRA-to,
 }
-use Rattle.rules.specs.Checks.{Refusal, refusal}
 use Rattle.rules.specs.Lent as lent
 use Rattle.card.specs.Values.{cardOf}
 use Rattle.card.specs.declared.Card.{Card}
@@ -38,10 +37,6 @@ use Rattle.bank.specs.declared.Each.{Each}
 use Rattle.bank.specs.declared.NotedEach.{NotedEach}
 use Rattle.bank.specs.declared.Four.{Four}
 use Rattle.bank.specs.declared.Record.{Record}
-use Rattle.bank.specs.declared.Ended.{Ended}
-use Rattle.bank.specs.declared.Ended.the-variants.{Paid, BadRecord, Earlier, Overdue}
-use Rattle.ledger.specs.declared.Answer.{Answer}
-use Rattle.ledger.specs.declared.Answer.the-variants as told
 
 -- an entry that is remembered, if it is there; 0 is noted where no rule goes by MR2
 abbrev pub entry : (at noted : ℕ) → Found ℕ
@@ -158,32 +153,3 @@ freshOf card = record {
   };
   ledger = record { at = 0; owed = 8; refreshed = 0 };
 }
-
--- document 01's numbers of each case of the end, and the ledger at E
-unfoldable pub refusalOf : Ended → Option Refusal
-refusalOf (Paid x) = none
-refusalOf BadRecord = some (refusal 13 0 0)
-refusalOf Earlier = some (refusal 5 0 0)
-refusalOf (Overdue q t) = some (refusal 11 q t)
-
-unfoldable pub owingOf : Ended → Option ℤ
-owingOf (Paid x) = some (subℕ x 8)
-owingOf BadRecord = none
-owingOf Earlier = none
-owingOf (Overdue q t) = none
-
--- the end by what is told of the ledger that is moved on to it
-unfoldable pub endedOf : (owed : ℕ) → Answer → Ended
-endedOf x told.Done = Paid x
-endedOf x told.BadRecord = BadRecord
-endedOf x told.Earlier = Earlier
-endedOf x (told.Overdue q t) = Overdue q t
-
-unfoldable pub unlessRefused : {A : Type 0} → Option Refusal → A → Option A
-unlessRefused none x = some x
-unlessRefused (some r) x = none
-
--- the end offered to a record: what is told, and the ledger there
-pub record Closes (l : lent.Lent) (end : ℕ) (r : Ended) : Type 0 where
-  pub told : refusalOf r ≡ lent.closeRefusal l end
-  pub owing : owingOf r ≡ unlessRefused (lent.closeRefusal l end) (lent.owingAt l end)

@@ -1,36 +1,28 @@
 // The end offered to a record.
-ghost use mathlib.Core.Path.{_≡_};
-ghost use Rattle.bank.specs.Values.{lentOf, endedOf, Closes};
-use crate::Ended;
+ghost use Rattle.rules.specs.Lent as lent;
+ghost use Rattle.ledger.specs.Values.{Left};
+ghost use Rattle.bank.specs.Values.{lentOf};
 use crate::Record;
 use crate::sound;
 use ledger::After;
 use ledger::Answer;
 
-fn ended(after: After) -> Ended
-    ensures { λ r. ⌜ r ≡ endedOf (after .ledger .owed) (after .answer) ⌝ }
+// Refused in this order: 13, 5, 11. The ledger that comes back stands at E, or on a refusal where it stood.
+pub fn close(rec: Record, end: u32) -> After
+    ensures { λ r. ⌜ Left (lent.closeRefusal (lentOf rec) end) (lentOf rec .ledger) (lent.moved (lentOf rec .card) (lentOf rec .ledger) end) r ⌝ }
 {
-    let answer = after.answer;
-    match answer {
-        Answer::Done => Ended::Paid(after.ledger.owed),
-        Answer::BadRecord => Ended::BadRecord,
-        Answer::Earlier => Ended::Earlier,
-        Answer::Overdue { rule, cycle } => Ended::Overdue {
-            rule: rule,
-            cycle: cycle,
-        },
-    }
-}
-
-// Refused in this order: 13, 5, 11. The record stays as it is.
-pub fn close(rec: Record, end: u32) -> Ended
-    ensures { λ r. ⌜ Closes (lentOf rec) end r ⌝ }
-{
+    let stood = rec.ledger;
     if !sound::good(rec) {
-        return Ended::BadRecord;
+        return After {
+            ledger: stood,
+            answer: Answer::BadRecord,
+        };
     }
     if rec.last.seen & (end < rec.last.at) {
-        return Ended::Earlier;
+        return After {
+            ledger: stood,
+            answer: Answer::Earlier,
+        };
     }
-    ended(ledger::moved(rec.ledger, rec.card, end))
+    ledger::moved(stood, rec.card, end)
 }

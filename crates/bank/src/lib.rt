@@ -79,11 +79,3 @@ pub struct Record {
     pub banks: Banks,
     pub ledger: Ledger,
 }
-
-// What the end comes to: the ledger at E with 8 added, or 13, 5, or 11 with the rule and the first cycle that fails.
-pub enum Ended {
-    Paid(u8),
-    BadRecord,
-    Earlier,
-    Overdue { rule: u8, cycle: u64 },
-}

@@ -11,27 +11,16 @@ use borrow.Author.Count.{below-more}
 use Rattle.rules.specs.Lists.{all}
 use Rattle.rules.specs.Card.{Timing}
 use Rattle.rules.specs.Units.{n}
-use Rattle.rules.specs.Ranges.{timings}
+use Rattle.rules.specs.Ranges.{timingGood, timings}
+use Rattle.rules.proofs.Onward.{onward}
 use Rattle.card.specs.Values.{clk, timingIn, cardOf, Counted}
 use Rattle.card.specs.declared.Card.{Card}
 use Rattle.card.specs.declared.Clocks.{Clocks}
 
--- k timings from place i on
-unfoldable pub columns : Card → ℕ → ℕ → List Timing
-columns card i zero = []
-columns card i (suc k) = timingIn card i ∷ columns card (suc i) k
-
-pub all-columns : (card : Card) → timings (cardOf card) ≡ columns card 0 14
-unfolding columns timings cardOf
-all-columns card = refl
-
--- a test of the timings from place i on
-pub all-from : (p : Timing → Bool) (card : Card) (i : ℕ) → i < 14
-    → all p (columns card i (14 - i)) ≡ (p (timingIn card i) && all p (columns card (i + 1) (14 - (i + 1))))
-unfolding columns all
-all-from p card i h =
-    let e : 14 - i ≡ suc (14 - (i + 1)) = omega arith in
-    rw (e, add-one)
+-- a test of every timing goes by their places
+pub all-timings : (card : Card) → all timingGood (timings (cardOf card)) ≡ onward (λ k. timingGood (timingIn card k)) 0 14
+unfolding onward all timings cardOf
+all-timings card = refl
 
 pub counted-more : (card : Card) (i : ℕ) (l : List Clocks) (v : Clocks)
     → i < length l → Counted card i l → v ≡ clk (n (cardOf card) (timingIn card i)) → Counted card (i + 1) (set l i v)

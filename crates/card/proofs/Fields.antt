@@ -12,11 +12,11 @@ use borrow.Author.Tests.{ne-eqb, eqb-true}
 use Rattle.rules.specs.Card as paper
 use Rattle.rules.specs.Ranges.{timings, within}
 use Rattle.rules.specs.Form as form
+use Rattle.rules.proofs.Onward.{onward, at-each}
 use Rattle.rules.proofs.Tests.{le-cases, eq-cases}
 use Rattle.card.specs.Values.{timingIn, cardOf}
 use Rattle.card.specs.Reading.{good, put, answer, taken, readOf, blankCard}
 use Rattle.card.specs.declared.Card.{Card}
-use Rattle.card.proofs.Computed.{upTo, up-to}
 
 -- a card's four numbers and its fourteen timings, by their place
 built : (period mr2 groups trefi : ℕ) → (ℕ → paper.Timing) → paper.Card
@@ -54,8 +54,8 @@ places : List ℕ
 places = 0 ∷ 1 ∷ 2 ∷ 3 ∷ 4 ∷ 5 ∷ 6 ∷ 7 ∷ 8 ∷ 9 ∷ 10 ∷ 11 ∷ 12 ∷ 13 ∷ []
 
 place-is : (k : ℕ) → k < 14 → getD places k 0 ≡ k
-unfolding places upTo
-place-is k h = eqb-true (getD places k 0) k (up-to 14 (λ j. eqb (getD places j 0) j) refl k h)
+unfolding places onward
+place-is k h = eqb-true (getD places k 0) k (at-each (λ j. eqb (getD places j 0) j) 0 14 refl k (omega arith) (omega arith))
 
 same-built : {p q m n g h r s : ℕ} {c d : ℕ → paper.Timing}
     → p ≡ q → m ≡ n → g ≡ h → r ≡ s → ((k : ℕ) → k < 14 → c k ≡ d k) → built p m g r c ≡ built q n h s d

@@ -9,9 +9,9 @@ use borrow.Author.Tests.{leb-true, le-leb, eqb-true}
 use Rattle.rules.specs.Lists.{all}
 use Rattle.rules.specs.Ranges.{within}
 use Rattle.rules.specs.Form.{Listed, _of_, lengths, isListed, lengthGood}
+use Rattle.rules.proofs.Onward.{onward, at-each}
 use Rattle.rules.proofs.Tests.{both-true}
 use Rattle.card.specs.Reading.{sizeOf}
-use Rattle.card.proofs.Computed.{upTo, up-to}
 
 differ : {A : Type 0} → Path Bool false true → A
 differ e = let z : _≡_ {A = ℕ} 0 1 = cc in absurd (omega arith)
@@ -39,12 +39,12 @@ listed-has p (x ∷ xs) t l h e =
 
 -- the sizes that the code goes by, 0 for no such tag
 pub as-listed : (t l : ℕ) → t < 256 → (ltb 0 (sizeOf t) && eqb (sizeOf t) l) ≡ lengthGood t l
-unfolding lengthGood isListed lengths _of_ all upTo sizeOf within
+unfolding lengthGood isListed lengths _of_ all onward sizeOf within
 as-listed t l h =
     same (ltb 0 (sizeOf t) && eqb (sizeOf t) l) (isListed lengths t l)
     (λ e.
     let b = both-true (ltb 0 (sizeOf t)) (eqb (sizeOf t) l) e in
-    let g = up-to 256 (λ k. cond (ltb 0 (sizeOf k)) (isListed lengths k (sizeOf k)) true) refl t h in
+    let g = at-each (λ k. cond (ltb 0 (sizeOf k)) (isListed lengths k (sizeOf k)) true) 0 256 refl t (omega arith) (omega arith) in
     rw (← eqb-true (sizeOf t) l (b .1)) (rw (b .0) at g))
     (listed-has (λ k s. ltb 0 (sizeOf k) && eqb (sizeOf k) s) lengths t l refl)
 

@@ -1,7 +1,6 @@
 -- Laws of the tables and columns, each after what it stands on; what the fields of a file make of a card; and that every promise determines its answer.
 pub mod Columns
 pub mod Found
-pub mod Computed
 pub mod Lengths
 pub mod Numbers
 pub mod Fields

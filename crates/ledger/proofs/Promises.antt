@@ -33,11 +33,11 @@ answer-is Earlier = refl
 answer-is (Overdue q t) = refl
 
 -- the number as it is stored, 8 added
-abbrev pub stored : ℤ → ℕ
+abbrev stored : ℤ → ℕ
 stored (pos n) = 8 + n
 stored (negsuc n) = 7 - n
 
-pub stored-is : (x : ℕ) → stored (subℕ x 8) ≡ x
+stored-is : (x : ℕ) → stored (subℕ x 8) ≡ x
 stored-is x = ⊎-elim
     (λ (p : (x < 8) × (ltb x 8 ≡ true)). rw (p .1) (omega arith))
     (λ (p : (8 ≤ x) × (ltb x 8 ≡ false)). rw (p .1) (omega arith))

@@ -1,5 +1,6 @@
 -- Theorems about the rules, a file to an idea, each after what it stands on.
 pub mod Tests
+pub mod Onward
 pub mod Fields
 pub mod Parts
 pub mod PinParts

@@ -39,7 +39,6 @@ use Rattle.rules.specs.Lent.{
   stepRefusal,
   lentAfter,
   closeRefusal,
-  owingAt,
   ledgerGood,
   moveRefusal,
   moved,
@@ -218,8 +217,8 @@ module _ (card : Card) (past : Past) (c : ℕ) (good : cardGood card ≡ true) (
   close-by-list end h = rw (lent-good, from-at end h (last-same past end), failing-until (suc end) (omega arith)) (unfold firstOf orElse unless in refl)
 
   pub owing-by-list : (end : ℕ) → standsAt card past c ≤ end →
-      owingAt (standing card past c) end ≡ ledgerAfter (lpddr3 .credit) (interval card) (countedStamps past) end
-  unfolding owingAt standing
+      moved card (standing card past c .ledger) end .owing ≡ ledgerAfter (lpddr3 .credit) (interval card) (countedStamps past) end
+  unfolding moved standing
   owing-by-list end h = ap (λ (g : Ledger). g .owing) (ledger-moved end h) ∙ (unfold standingLedger in rw (cycle-moved end h .0))
 
   -- ---- a moved-on ledger

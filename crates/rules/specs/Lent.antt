@@ -199,7 +199,7 @@ lentAfter l e =
       ledger = ledgerWith l e;
     }
 
--- ---- the end offered to a record: 13, 5, 11; it answers with the ledger at E
+-- ---- the end offered to a record: 13, 5, 11; it answers with the ledger moved on to E
 unfoldable pub closeRefusal : Lent → ℕ → Option Refusal
 closeRefusal l end =
     firstOf (
@@ -207,9 +207,6 @@ closeRefusal l end =
     unless (lastBy (l .last) end && leb (l .ledger .at) end) 5 ∷
     named 11 (failingTo (interval (l .card)) (l .ledger) (suc end)) ∷ []
     )
-
-unfoldable pub owingAt : Lent → ℕ → ℤ
-owingAt l end = ledgerTo (interval (l .card)) (l .ledger) end .owing
 
 -- ---- a ledger lent alone, with its card, and moved on to cycle c: 13, 5, 11
 unfoldable pub ledgerGood : Card → Ledger → Bool

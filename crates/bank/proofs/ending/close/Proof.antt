@@ -2,7 +2,7 @@
 use mathlib.Core.Path.{sym, _∙_}
 use borrow.Author.Tests.{not-true, not-false}
 use borrow.Author.Needs.{needs}
-use Rattle.bank.proofs.Closed.{bad, early, after-end, by-end, moved-on}
+use Rattle.bank.proofs.Closed.{bad, early, moved-on}
 use Rattle.bank.proofs.ending.close.Statement.{statement}
 use Rattle.bank.proofs.ending.close.Tie as tie
 
@@ -15,20 +15,15 @@ returns c = bad _ _ (sym (c .before .good2 .ensures) ∙ not-true _ (c .if1 .tak
 returns-2 : tie.Need-returns-2
 returns-2 c =
     let e = c .before .before .before in
-    early _ _ (sym (e .before .good2 .ensures) ∙ not-false _ (e .if1 .left)) (after-end _ _ (c .if2 .taken))
+    early _ _ (sym (e .before .good2 .ensures) ∙ not-false _ (e .if1 .left)) (c .if2 .taken)
 
 moved-requires : tie.Need-moved-requires
 moved-requires c κs = search needs
 
-ended-requires : tie.Need-ended-requires
-ended-requires c κs = search needs
-
 returns-3 : tie.Need-returns-3
 returns-3 c =
-    let e = c .before .before .before .before .before in
-    rw (c .ended .ensures)
-    (moved-on _ _ (sym (e .before .good2 .ensures) ∙ not-false _ (e .if1 .left)) (by-end _ _ (c .before .before .if2 .left)) _ (c .before .moved .ensures))
+    let e = c .before .before .before .before in
+    moved-on _ _ (sym (e .before .good2 .ensures) ∙ not-false _ (e .if1 .left)) (c .before .if2 .left) _ (c .moved .ensures)
 
 pub close-spec : {M : Type 1} → statement M
-close-spec =
-    tie.close (tie.spec good-requires returns returns-2 moved-requires ended-requires returns-3)
+close-spec = tie.close (tie.spec good-requires returns returns-2 moved-requires returns-3)

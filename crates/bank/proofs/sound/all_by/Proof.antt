@@ -1,13 +1,13 @@
 -- The banks from i on are still to be tested.
 use Prim.Native.Nat.{_≤_, _-_}
 use mathlib.Core.Bool.{false}
-use mathlib.Core.Path.{sym, _∙_, _≡_}
+use mathlib.Core.Path.{_≡_}
 use native.Mathlib.Omega.{arith}
 use lib.ListN.{getD}
 use borrow.Author.Needs.{needs}
-use borrow.Author.Tests.{not-true, not-false}
+use Rattle.rules.proofs.Onward.{onward, fails, goes-on, passes}
 use Rattle.bank.specs.Clauses.{keptBy, eachBy}
-use Rattle.bank.proofs.Stored.{onward, all-onward, onward-next}
+use Rattle.bank.proofs.Stored.{all-onward}
 use Rattle.bank.proofs.sound.all_by.Statement.{statement}
 use Rattle.bank.proofs.sound.all_by.Tie as tie
 
@@ -22,18 +22,15 @@ unfolding eachBy
 loop-holds c = (omega arith, all-onward _)
 
 returns : tie.Need-returns Inv-loop μ-loop
-returns c =
-    let x = c .before .before .before .loop in
-    sym (x .inv .1 ∙ onward-next _ 8 (x .i) (omega arith) ∙ rw (← c .before .by .ensures, not-true (c .before .by .result) (c .if1 .taken)))
+returns c = let x = c .before .before .before .loop in fails _ 8 (x .i) _ (x .inv .1) (omega arith) _ (c .before .by .ensures) (c .if1 .taken)
 
 loop-again : tie.Need-loop-again Inv-loop μ-loop
 loop-again c =
     let x = c .before .before .before .loop in
-    (omega arith, x .inv .1 ∙ onward-next _ 8 (x .i) (omega arith) ∙ rw (← c .before .by .ensures, not-false (c .before .by .result) (c .if1 .left)))
+    (omega arith, goes-on _ 8 (x .i) _ (x .inv .1) (omega arith) _ (c .before .by .ensures) (c .if1 .left))
 
 returns-2 : tie.Need-returns-2 Inv-loop μ-loop
-unfolding onward
-returns-2 c = let e : c .before .loop .i ≡ 8 = omega arith in sym (rw e at (c .before .loop .inv .1))
+returns-2 c = passes _ 8 (c .before .loop .i) _ (c .before .loop .inv .1) (omega arith)
 
 pub all-by-spec : {M : Type 1} → statement M
 all-by-spec =
