@@ -1,10 +1,12 @@
 -- The record after an entry is the rules' record after it.
 use Prim.Native.Nat.{ℕ, _≤_}
-use mathlib.Core.Path.{_≡_, refl}
+use mathlib.Core.Path.{_≡_, refl, ap, _∙_}
 use mathlib.Core.Bool.{Bool, true, false, cond, _&&_, _||_}
 use mathlib.Core.List.{[], _∷_}
 use mathlib.Core.Option.{some}
-use borrow.Author.Tests.{leb-true}
+use mathlib.Core.Logic.{⊎-elim}
+use native.Mathlib.Omega.{arith}
+use borrow.Author.Tests.{leb-true, le-leb, lt-leb}
 use lib.Dec.{eqb, leb}
 use lib.ListN.{getD}
 use Rattle.rules.specs.Commands.{Command, MRW, MRR, REFPB, REFAB, ACT, RD, WR, PRE, PREA, is, bankOf, apOf}
@@ -38,14 +40,14 @@ use Rattle.rules.specs.Entries.{Entry}
 use Rattle.rules.specs.Lent.{Lent, lentGood, mr2sGood, owingGood, stampsGood, lastBy, refreshedGood, aboveLast, commandIn, ledgerWith, lentAfter, remembered, historyAfter}
 use Rattle.rules.specs.Pins.{decode, good}
 use Rattle.rules.specs.Ranges.{cardGood}
-use Rattle.rules.proofs.Tests.{both-true}
+use Rattle.rules.proofs.Tests.{both-true, eq-cases}
 use Rattle.rules.proofs.Writable.{bounded}
 use Rattle.rules.proofs.ReadWrite.{read-fits}
 use Rattle.card.specs.Values.{cardOf}
 use Rattle.ledger.specs.Values.{ledgerOf}
 use Rattle.ledger.specs.declared.Ledger.{Ledger}
 use Rattle.bank.specs.Values.{entry, once, each, preOf, preaOf, asked, lastOf, lentOf}
-use Rattle.bank.specs.After.{AfterArgs, afterCommand, onceIf, fourAfter, latestAfter, busAfter, stampedAfter, banksAfter, recordAfter}
+use Rattle.bank.specs.After.{AfterArgs, Changed, afterCommand, onceIf, counterOn, fourAfter, latestAfter, busAfter, stampedAfter, banksAfter, recordAfter}
 use Rattle.bank.specs.declared.Once.{Once}
 use Rattle.bank.specs.declared.Record.{Record}
 use Rattle.bank.proofs.Sizes.{Whole}
@@ -84,6 +86,13 @@ once-stamp : (now : Bool) (t : ℕ) (x : Once) → onceIf now t x .at ≡ cond n
 unfolding onceIf
 once-stamp true t x = refl
 once-stamp false t x = refl
+
+counter-on : (c : Command) (n : ℕ) → n ≤ 7 → counterOn c n ≡ counterAfter c n
+unfolding counterOn counterAfter
+counter-on c n h =
+    ⊎-elim (λ (p : (n ≡ 7) × (eqb n 7 ≡ true)). rw (p .1, le-leb 7 n (omega arith)))
+    (λ (p : (n ≡ 7 → ⊥) × (eqb n 7 ≡ false)). rw (p .1, lt-leb 7 n (omega arith)))
+    (eq-cases n 7)
 
 module _ (r : Record) (c : Command) (t : ℕ) (g : Ledger) (w : Whole r) (a : AfterArgs r t c) where
   low : bankAt c (r .counter) ≤ 7
@@ -132,8 +141,11 @@ module _ (r : Record) (c : Command) (t : ℕ) (g : Ledger) (w : Whole r) (a : Af
     card = cardOf (r .card);
     mr2 = registerAfter 2 c (r .mr2);
     open? = λ b. opened-after c (r .banks .opened) b (w .opened) (a .bank) i;
-    counter = counterAfter c (r .counter);
+    counter = counter-on c (r .counter) (a .counter) i;
     last = some t;
     history = λ q. remembers (q .ask) (q .bank) i;
     ledger = ledgerOf g;
   }
+
+pub changed : (r : Record) (c : Command) (t : ℕ) (g : Ledger) → Whole r → (s : Record) → s ≡ recordAfter r c t g → Changed r t c g s
+changed r c t g w s e = record { is = e; lent = λ a. ap lentOf e ∙ record-after r c t g w a }

@@ -28,7 +28,7 @@ first-third-sixth true true true true false false g h = h
 first-third-sixth true true true true true false g h = h
 
 -- a record that 13 lets pass has a ledger that 13 lets pass
-ledger-good : (l : Lent) → lentGood l ≡ true → ledgerGood (l .card) (l .ledger) ≡ true
+pub ledger-good : (l : Lent) → lentGood l ≡ true → ledgerGood (l .card) (l .ledger) ≡ true
 unfolding lentGood ledgerGood
 ledger-good l e =
     first-third-sixth (cardGood (l .card)) (mr2sGood l) (owingGood (l .ledger .owing)) (stampsGood l) (lastBy (l .last) (l .ledger .at)) (refreshedGood (l .ledger))

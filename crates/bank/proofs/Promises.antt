@@ -4,6 +4,8 @@ use Rattle.rules.proofs.Determined.{Promise, Determined, determined, fact-of}
 use Rattle.ledger.proofs.Promises.{one-left}
 use Rattle.bank.proofs.fresh.fresh_record as fresh-record
 use Rattle.bank.proofs.ending.close as close
+use Rattle.bank.proofs.sound.good as good
+use Rattle.bank.proofs.taking.after as after
 
 abbrev fresh-record-says : Promise fresh-record.ended
 fresh-record-says w = fresh-record.clauses (w .𝓤) (w .H) (w .𝓖 .A) (w .𝓜 .mem) (w .𝓡 .run)
@@ -17,3 +19,15 @@ close-says w = close.clauses (w .𝓤) (w .H) (w .𝓖 .A) (w .𝓜 .mem) (w .�
 
 pub close-determined : Determined close.ended close-says
 close-determined = determined close.ended close-says (λ κs a r e. fact-of _) (λ κs a r r′ ws ws′ p p′. (one-left _ _ _ r r′ p p′, refl))
+
+abbrev good-says : Promise good.ended
+good-says w = good.clauses (w .𝓤) (w .H) (w .𝓖 .A) (w .𝓜 .mem) (w .𝓡 .run)
+
+pub good-determined : Determined good.ended good-says
+good-determined = determined good.ended good-says (λ κs a r e. fact-of _) (λ κs a r r′ ws ws′ p p′. (p ∙ sym p′, refl))
+
+abbrev after-says : Promise after.ended
+after-says w = after.clauses (w .𝓤) (w .H) (w .𝓖 .A) (w .𝓜 .mem) (w .𝓡 .run)
+
+pub after-determined : Determined after.ended after-says
+after-determined = determined after.ended after-says (λ κs a r e. fact-of _) (λ κs a r r′ ws ws′ p p′. (p .is ∙ sym (p′ .is), refl))

@@ -1,5 +1,5 @@
 -- What an entry that was taken changes: in the record of the rules, and in that of the code.
-use Prim.Native.Nat.{ℕ, _+_, _≤_}
+use Prim.Native.Nat.{ℕ, suc, _+_, _≤_}
 use mathlib.Core.Path.{_≡_}
 use mathlib.Core.Bool.{Bool, true, false, cond, _&&_, _||_}
 use mathlib.Core.List.{List, [], _∷_}
@@ -11,6 +11,7 @@ use Rattle.rules.specs.Commands.{MRW, MRR, REFPB, REFAB, ACT, RD, WR, PRE, PREA
 use Rattle.rules.specs.Past.{registerAfter, counterAfter, openAfter, bankAt}
 use Rattle.rules.specs.Lent as lent
 use Rattle.ledger.specs.declared.Ledger.{Ledger}
+use Rattle.ledger.specs.Values.{ledgerOf}
 use Rattle.bank.specs.Values.{lentOf}
 use Rattle.bank.specs.declared.Once.{Once}
 use Rattle.bank.specs.declared.Noted.{Noted}
@@ -74,6 +75,10 @@ unfoldable pub pushedOn : ℕ → Four → Four
 pushedOn t x = record { count = cond (leb 4 (x .count)) 4 (x .count + 1); at = shifted t (x .at) }
 
 -- ---- the parts of the record
+-- a counter above 7 goes round as 7 does
+unfoldable pub counterOn : rules.Command → ℕ → ℕ
+counterOn c n = cond (is REFAB c) 0 (cond (is REFPB c) (cond (leb 7 n) 0 (suc n)) n)
+
 unfoldable pub fourAfter : rules.Command → (stamp : ℕ) → Four → Four
 fourAfter c t x = cond (is ACT c || is REFPB c) (pushedOn t x) x
 
@@ -160,7 +165,7 @@ unfoldable pub recordAfter : Record → rules.Command → (stamp : ℕ) → Ledg
 recordAfter r c t g = record {
   card = r .card;
   mr2 = registerAfter 2 c (r .mr2);
-  counter = counterAfter c (r .counter);
+  counter = counterOn c (r .counter);
   last = onceAt t;
   latest = latestAfter c t (r .latest);
   bus = busAfter c t (r .mr2) (r .bus);
@@ -168,3 +173,8 @@ recordAfter r c t g = record {
   banks = banksAfter c (r .counter) t (r .mr2) (r .banks);
   ledger = g;
 }
+
+-- the record to the bit, and what it then is to the rules
+pub record Changed (r : Record) (stamp : ℕ) (c : rules.Command) (g : Ledger) (s : Record) : Type 0 where
+  pub is : s ≡ recordAfter r c stamp g
+  pub lent : AfterArgs r stamp c → lentOf s ≡ afterCommand (lentOf r) c stamp (ledgerOf g)

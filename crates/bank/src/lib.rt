@@ -1,13 +1,15 @@
 // A record of each bank, moved on by one entry at a time.
-mod after;
 mod ending;
 mod fresh;
 mod sound;
+mod taking;
 
 use card::Card;
 pub use ending::close;
 pub use fresh::fresh_record;
 use ledger::Ledger;
+pub use sound::good;
+pub use taking::after;
 
 // The stamp of an entry. That there is no such entry yet is a state of its own, since a stamp uses all 32 bits.
 pub struct Once {

@@ -13,19 +13,18 @@ use Rattle.rules.specs.Card.{Timing}
 use Rattle.rules.specs.Units.{n}
 use Rattle.rules.specs.Ranges.{timingGood, timings}
 use Rattle.rules.proofs.Onward.{onward}
-use Rattle.card.specs.Values.{clk, timingIn, cardOf, Counted}
+use Rattle.card.specs.Values.{timingIn, cardOf, clipped, Counted}
 use Rattle.card.specs.declared.Card.{Card}
-use Rattle.card.specs.declared.Clocks.{Clocks}
 
 -- a test of every timing goes by their places
 pub all-timings : (card : Card) → all timingGood (timings (cardOf card)) ≡ onward (λ k. timingGood (timingIn card k)) 0 14
 unfolding onward all timings cardOf
 all-timings card = refl
 
-pub counted-more : (card : Card) (i : ℕ) (l : List Clocks) (v : Clocks)
-    → i < length l → Counted card i l → v ≡ clk (n (cardOf card) (timingIn card i)) → Counted card (i + 1) (set l i v)
+pub counted-more : (card : Card) (i : ℕ) (l : List ℕ) (v : ℕ)
+    → i < length l → Counted card i l → v ≡ clipped (n (cardOf card) (timingIn card i)) → Counted card (i + 1) (set l i v)
 unfolding Counted
 counted-more card i l v h before e =
-    below-more (λ k. getD (set l i v) k (clk 0) ≡ clk (n (cardOf card) (timingIn card k))) i
-    (λ k lt. getD-set-other l i k v (clk 0) (omega arith) ∙ before k lt)
-    (getD-set-same l i v (clk 0) h ∙ e)
+    below-more (λ k. getD (set l i v) k 0 ≡ clipped (n (cardOf card) (timingIn card k))) i
+    (λ k lt. getD-set-other l i k v 0 (omega arith) ∙ before k lt)
+    (getD-set-same l i v 0 h ∙ e)

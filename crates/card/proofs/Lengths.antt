@@ -22,7 +22,7 @@ same false true f g = g refl
 same false false f g = refl
 
 -- what holds of each row holds of a tag and a length that are listed
-listed-has : (p : ℕ → ℕ → Bool) (xs : List Listed) (t l : ℕ)
+pub listed-has : (p : ℕ → ℕ → Bool) (xs : List Listed) (t l : ℕ)
     → all (λ x. p (x .tag) (x .size)) xs ≡ true → isListed xs t l ≡ true → p t l ≡ true
 unfolding all isListed
 listed-has p [] t l h e = differ e

@@ -1,5 +1,6 @@
 -- Laws of the tables and columns, each after what it stands on; what the fields of a file make of a card; and that every promise determines its answer.
 pub mod Columns
+pub mod Fits
 pub mod Found
 pub mod Lengths
 pub mod Numbers

@@ -2,7 +2,7 @@
 use mathlib.Core.Path.{_≡_, refl, ap, sym, _∙_}
 use Rattle.rules.specs.Units as paper
 use Rattle.rules.proofs.Determined.{Promise, Determined, determined, fact-of}
-use Rattle.card.specs.Values.{clk, clocksOf}
+use Rattle.card.specs.Values.{clocksOf}
 use Rattle.card.specs.declared.Delays.{Delays}
 use Rattle.card.proofs.ranges.in_range as in-range
 use Rattle.card.proofs.registers.latency_of as latency-of
@@ -49,21 +49,21 @@ interval-determined = determined interval.ended interval-says (λ κs a r e. fac
 -- the delays with these numbers
 delaysIn : paper.Delays → Delays
 delaysIn d = record {
-  trcd = clk (d .trcd);
-  trppb = clk (d .trppb);
-  trpab = clk (d .trpab);
-  tras = clk (d .tras);
-  trc = clk (d .trc);
-  trrd = clk (d .trrd);
-  tfaw = clk (d .tfaw);
-  trtp = clk (d .trtp);
-  twr = clk (d .twr);
-  twtr = clk (d .twtr);
-  tdqsck = clk (d .tdqsck);
-  trfcab = clk (d .trfcab);
-  trfcpb = clk (d .trfcpb);
-  tmrr = clk (d .tmrr);
-  tmrw = clk (d .tmrw);
+  trcd = d .trcd;
+  trppb = d .trppb;
+  trpab = d .trpab;
+  tras = d .tras;
+  trc = d .trc;
+  trrd = d .trrd;
+  tfaw = d .tfaw;
+  trtp = d .trtp;
+  twr = d .twr;
+  twtr = d .twtr;
+  tdqsck = d .tdqsck;
+  trfcab = d .trfcab;
+  trfcpb = d .trfcpb;
+  tmrr = d .tmrr;
+  tmrw = d .tmrw;
 }
 
 -- delays with the same numbers are one

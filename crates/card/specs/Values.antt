@@ -1,5 +1,5 @@
 -- The card and the delays of the code, read as the rules' own.
-use Prim.Native.Nat.{ℕ, _^_, _<_}
+use Prim.Native.Nat.{ℕ, _^_, _<_, min}
 use mathlib.Core.Path.{_≡_}
 use mathlib.Core.List.{List}
 use lib.ListN.{getD}
@@ -44,21 +44,44 @@ cardOf card = record {
 
 unfoldable pub clocksOf : Delays → units.Delays
 clocksOf d = record {
-  trcd = d .trcd .0;
-  trppb = d .trppb .0;
-  trpab = d .trpab .0;
-  tras = d .tras .0;
-  trc = d .trc .0;
-  trrd = d .trrd .0;
-  tfaw = d .tfaw .0;
-  trtp = d .trtp .0;
-  twr = d .twr .0;
-  twtr = d .twtr .0;
-  tdqsck = d .tdqsck .0;
-  trfcab = d .trfcab .0;
-  trfcpb = d .trfcpb .0;
-  tmrr = d .tmrr .0;
-  tmrw = d .tmrw .0;
+  trcd = d .trcd;
+  trppb = d .trppb;
+  trpab = d .trpab;
+  tras = d .tras;
+  trc = d .trc;
+  trrd = d .trrd;
+  tfaw = d .tfaw;
+  trtp = d .trtp;
+  twr = d .twr;
+  twtr = d .twtr;
+  tdqsck = d .tdqsck;
+  trfcab = d .trfcab;
+  trfcpb = d .trfcpb;
+  tmrr = d .tmrr;
+  tmrw = d .tmrw;
+}
+
+-- in 32 bits: the most that they hold stands for anything beyond, which no card in range comes to (proofs/Fits)
+unfoldable pub clipped : ℕ → ℕ
+clipped k = min k 4_294_967_295
+
+unfoldable pub shortened : units.Delays → units.Delays
+shortened d = record {
+  trcd = clipped (d .trcd);
+  trppb = clipped (d .trppb);
+  trpab = clipped (d .trpab);
+  tras = clipped (d .tras);
+  trc = clipped (d .trc);
+  trrd = clipped (d .trrd);
+  tfaw = clipped (d .tfaw);
+  trtp = clipped (d .trtp);
+  twr = clipped (d .twr);
+  twtr = clipped (d .twtr);
+  tdqsck = clipped (d .tdqsck);
+  trfcab = clipped (d .trfcab);
+  trfcpb = clipped (d .trfcpb);
+  tmrr = clipped (d .tmrr);
+  tmrw = clipped (d .tmrw);
 }
 
 -- the timing at this place, in the code's own type
@@ -69,5 +92,5 @@ pub record Timed (card : Card) (k : ℕ) (r : Timing) : Type 0 where
   pub low : r .floor .0 < 256
 
 -- n(x) of the first k timings
-unfoldable pub Counted : Card → ℕ → List Clocks → Type 0
-Counted card k l = (i : ℕ) → i < k → getD l i (clk 0) ≡ clk (units.n (cardOf card) (timingIn card i))
+unfoldable pub Counted : Card → ℕ → List ℕ → Type 0
+Counted card k l = (i : ℕ) → i < k → getD l i 0 ≡ clipped (units.n (cardOf card) (timingIn card i))

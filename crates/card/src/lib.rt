@@ -30,22 +30,23 @@ pub struct Card {
     pub floors: [u8; 14],
 }
 
+// In clocks, in 32 bits, which hold every delay of a card in range.
 pub struct Delays {
-    pub trcd: Clocks,
-    pub trppb: Clocks,
-    pub trpab: Clocks,
-    pub tras: Clocks,
-    pub trc: Clocks,
-    pub trrd: Clocks,
-    pub tfaw: Clocks,
-    pub trtp: Clocks,
-    pub twr: Clocks,
-    pub twtr: Clocks,
-    pub tdqsck: Clocks,
-    pub trfcab: Clocks,
-    pub trfcpb: Clocks,
-    pub tmrr: Clocks,
-    pub tmrw: Clocks,
+    pub trcd: u32,
+    pub trppb: u32,
+    pub trpab: u32,
+    pub tras: u32,
+    pub trc: u32,
+    pub trrd: u32,
+    pub tfaw: u32,
+    pub trtp: u32,
+    pub twr: u32,
+    pub twtr: u32,
+    pub tdqsck: u32,
+    pub trfcab: u32,
+    pub trfcpb: u32,
+    pub tmrr: u32,
+    pub tmrw: u32,
 }
 
 pub struct Latency {

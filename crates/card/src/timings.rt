@@ -2,7 +2,7 @@
 ghost use mathlib.Core.Path.{_≡_};
 ghost use Prim.Native.Nat.{_+_, _<_, _^_};
 ghost use Rattle.rules.specs.Units as paper;
-ghost use Rattle.card.specs.Values.{clk, cardOf, timingIn, clocksOf, Counted, Timed};
+ghost use Rattle.card.specs.Values.{cardOf, timingIn, clipped, clocksOf, shortened, Counted, Timed};
 use crate::Card;
 use crate::Clocks;
 use crate::Delays;
@@ -34,18 +34,28 @@ fn timing(card: Card, i: usize) -> Timing
     }
 }
 
-// n(x)
-fn timing_clocks(card: Card, i: usize) -> Clocks
-    requires { ⌜ i < 14 ⌝ }
-    ensures { λ r. ⌜ r ≡ clk (paper.n (cardOf card) (timingIn card i)) ⌝ }
+// The most that 32 bits hold stands for anything beyond.
+fn short(k: Clocks) -> u32
+    ensures { λ r. ⌜ r ≡ clipped (k .0) ⌝ }
 {
-    least_clocks(timing(card, i), picoseconds(card.period))
+    if 4294967295 < k.0 {
+        return 4294967295;
+    }
+    k.0 as u32
 }
 
-fn all_clocks(card: Card) -> [Clocks; 14]
+// n(x)
+fn timing_clocks(card: Card, i: usize) -> u32
+    requires { ⌜ i < 14 ⌝ }
+    ensures { λ r. ⌜ r ≡ clipped (paper.n (cardOf card) (timingIn card i)) ⌝ }
+{
+    short(least_clocks(timing(card, i), picoseconds(card.period)))
+}
+
+fn all_clocks(card: Card) -> [u32; 14]
     ensures { λ r. ⌜ Counted card 14 r ⌝ }
 {
-    let mut out = [Clocks(0); 14];
+    let mut out = [0; 14];
     let mut i: usize = 0;
     while i < 14 {
         out[i] = timing_clocks(card, i);
@@ -55,8 +65,8 @@ fn all_clocks(card: Card) -> [Clocks; 14]
 }
 
 // tRC
-fn row_cycle(card: Card) -> Clocks
-    ensures { λ r. ⌜ r ≡ clk (paper.rowCycle (cardOf card)) ⌝ }
+fn row_cycle(card: Card) -> u32
+    ensures { λ r. ⌜ r ≡ clipped (paper.rowCycle (cardOf card)) ⌝ }
 {
     let ras = timing(card, 3);
     let rp = timing(card, 1);
@@ -64,11 +74,11 @@ fn row_cycle(card: Card) -> Clocks
         duration: Picoseconds(ras.duration.0 + rp.duration.0),
         floor: Clocks(ras.floor.0 + rp.floor.0),
     };
-    least_clocks(both, picoseconds(card.period))
+    short(least_clocks(both, picoseconds(card.period)))
 }
 
 pub fn delays_of(card: Card) -> Delays
-    ensures { λ r. ⌜ clocksOf r ≡ paper.delaysOf (cardOf card) ⌝ }
+    ensures { λ r. ⌜ clocksOf r ≡ shortened (paper.delaysOf (cardOf card)) ⌝ }
 {
     let n = all_clocks(card);
     let trc = row_cycle(card);

@@ -15,7 +15,7 @@ use Rattle.ledger.specs.declared.Ledger.{Ledger}
 use Rattle.ledger.specs.declared.Answer.{Answer}
 use Rattle.ledger.specs.declared.Answer.the-variants.{Done, BadRecord, Earlier, Overdue}
 use Rattle.ledger.specs.declared.After.{After}
-use Rattle.ledger.specs.Values.{ledgerOf, refusalOf, Left}
+use Rattle.ledger.specs.Values.{ledgerOf, stored, codeOf, refusalOf, Left}
 use Rattle.ledger.proofs.calls.moved as moved
 use Rattle.ledger.proofs.calls.entered as entered
 use Rattle.ledger.proofs.move_on as move-on
@@ -32,22 +32,15 @@ answer-is BadRecord = refl
 answer-is Earlier = refl
 answer-is (Overdue q t) = refl
 
--- the number as it is stored, 8 added
-abbrev stored : ℤ → ℕ
-stored (pos n) = 8 + n
-stored (negsuc n) = 7 - n
-
 stored-is : (x : ℕ) → stored (subℕ x 8) ≡ x
+unfolding stored
 stored-is x = ⊎-elim
     (λ (p : (x < 8) × (ltb x 8 ≡ true)). rw (p .1) (omega arith))
     (λ (p : (8 ≤ x) × (ltb x 8 ≡ false)). rw (p .1) (omega arith))
     (lt-cases x 8)
 
-abbrev codeOf : lent.Ledger → Ledger
-codeOf g = record { at = g .at; owed = stored (g .owing); refreshed = g .refreshed }
-
-code-is : (g : Ledger) → codeOf (ledgerOf g) ≡ g
-unfolding ledgerOf
+pub code-is : (g : Ledger) → codeOf (ledgerOf g) ≡ g
+unfolding ledgerOf codeOf
 code-is g = λ i. record { at = g .at; owed = stored-is (g .owed) i; refreshed = g .refreshed }
 
 -- two that are told and left so are one

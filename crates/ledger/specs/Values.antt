@@ -1,11 +1,11 @@
 -- The types of the code, read as the values of the rules.
-use Prim.Native.Nat.{ℕ, suc, _-_, _≤_, _<_, _^_}
+use Prim.Native.Nat.{ℕ, suc, _+_, _-_, _≤_, _<_, _^_}
 use mathlib.Core.Path.{_≡_}
 use mathlib.Core.List.{[], _∷_}
 use mathlib.Core.Option.{Option, none, some}
 use mathlib.Core.Bool.{Bool, true, false, cond}
 use lib.Dec.{leb}
-use lib.IntN.{ℤ, subℕ}
+use lib.IntN.{ℤ, pos, negsuc, subℕ}
 use Rattle.rules.specs.Card.{Card}
 use Rattle.rules.specs.Units.{interval}
 use Rattle.rules.specs.Folds.{orElse, firstOf}
@@ -53,6 +53,14 @@ pub record IdleDone (I at owed refreshed to : ℕ) (r : Idle) : Type 0 where
 -- ---- the ledger and what is told of it
 unfoldable pub ledgerOf : Ledger → lent.Ledger
 ledgerOf g = record { at = g .at; owing = subℕ (g .owed) 8; refreshed = g .refreshed }
+
+-- and back: the number as it is stored
+unfoldable pub stored : ℤ → ℕ
+stored (pos n) = 8 + n
+stored (negsuc n) = 7 - n
+
+unfoldable pub codeOf : lent.Ledger → Ledger
+codeOf g = record { at = g .at; owed = stored (g .owing); refreshed = g .refreshed }
 
 -- document 01's numbers of each case
 unfoldable pub refusalOf : Answer → Option Refusal

@@ -9,7 +9,7 @@ use lib.IntN.{ℤ, subℕ}
 use lib.ListN.{length}
 use borrow.Author.Tests.{ltb-true}
 use Rattle.rules.specs.Card.{Card}
-use Rattle.rules.specs.Units.{interval}
+use Rattle.rules.specs.Units.{interval, delaysOf}
 use Rattle.rules.specs.Past.{Past, isCounted, countedStamps, commandCount}
 use Rattle.rules.specs.Entries.{Entry, viewOf, read, taken}
 use Rattle.rules.specs.Folds.{orElse, firstOf}
@@ -65,7 +65,7 @@ module _ (card : Card) where
   entryComputed past e =
       let cs = countedStamps (taken card past e ∷ past) in
       firstOf (
-      checks card (viewOf card past) (above past (e .stamp)) (firstClosed lpddr3 (interval card) (countedStamps past) (e .stamp))
+      checks card (delaysOf card) (viewOf card past) (above past (e .stamp)) (firstClosed lpddr3 (interval card) (countedStamps past) (e .stamp))
       (owing lpddr3 (interval card) (owedClosed lpddr3 (interval card) cs (e .stamp)) (lastCounted cs (e .stamp)) (e .stamp))
       (read card (viewOf card past) e) (e .stamp)
       )

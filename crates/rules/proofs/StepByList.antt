@@ -11,7 +11,7 @@ use lib.Dec.{leb}
 use borrow.Author.Tests.{le-leb, lt-leb}
 use Rattle.rules.specs.Lists.{isOneOf}
 use Rattle.rules.specs.Card.{Card}
-use Rattle.rules.specs.Units.{interval}
+use Rattle.rules.specs.Units.{interval, delaysOf}
 use Rattle.rules.specs.Ranges.{cardGood}
 use Rattle.rules.specs.Past.{Past, register, mr2At, counterAt, isOpen, isCounted, stampsWhere, countedStamps}
 use Rattle.rules.specs.Folds.{orElse, firstOf}
@@ -97,7 +97,7 @@ standsAt card past c = standingLedger card past c .at
 -- an entry's refusal, where 19 and 20 answer so at its stamp
 abbrev judgedAt : Card → Past → Entry → Option (ℕ × ℕ) → Option Refusal
 judgedAt card past e at = firstOf (
-    checks card (viewOf card past) (above past (e .stamp)) (firstFailing lpddr3 (interval card) (countedStamps past) (e .stamp)) at
+    checks card (delaysOf card) (viewOf card past) (above past (e .stamp)) (firstFailing lpddr3 (interval card) (countedStamps past) (e .stamp)) at
     (read card (viewOf card past) e) (e .stamp)
     )
 

@@ -5,7 +5,7 @@ use mathlib.Core.List.{List, [], _∷_}
 use mathlib.Core.Option.{Option, none, some}
 use lib.Dec.{leb, ltb}
 use Rattle.rules.specs.Card.{Card}
-use Rattle.rules.specs.Units.{interval, delaysOf}
+use Rattle.rules.specs.Units.{Delays, interval, delaysOf}
 use Rattle.rules.specs.Commands.{Command, carries, is, MRW}
 use Rattle.rules.specs.Pins.{Decoded, good, wrongBits, reserved}
 use Rattle.rules.specs.Registers.{mayWrite}
@@ -50,8 +50,8 @@ valueGood card c = cond (is MRW c) (mayWrite (card .period) (carries c .ma) (car
 
 -- The checks of an entry with stamp t: whether the stamp rises; 19 and 20 through the cycle before it; the pins, the bank state, the value, the delay
 -- rules; 19 and 20 at the stamp.
-unfoldable pub checks : Card → View → (rises : Bool) → (before at : Option (ℕ × ℕ)) → Decoded → (t : ℕ) → List (Option Refusal)
-checks card v rises before at d t =
+unfoldable pub checks : Card → Delays → View → (rises : Bool) → (before at : Option (ℕ × ℕ)) → Decoded → (t : ℕ) → List (Option Refusal)
+checks card delays v rises before at d t =
     let c = commandOf d in
     unless rises 5 ∷
     named 11 before ∷
@@ -59,7 +59,7 @@ checks card v rises before at d t =
     unless (not (isReserved d)) 7 ∷
     unless (stateGood (v .open?) (v .counter) c) 8 ∷
     unless (valueGood card c) 9 ∷
-    named 10 (firstBroken (v .look) (delayRules (delaysOf card) c (v .counter)) t) ∷
+    named 10 (firstBroken (v .look) (delayRules delays c (v .counter)) t) ∷
     named 11 at ∷ []
 
 -- ---- over the list
@@ -74,7 +74,7 @@ notBelow (e ∷ p) t = leb (e .stamp) t
 
 unfoldable pub entryChecks : Card → Past → Entry → List (Option Refusal)
 entryChecks card past e =
-    checks card (viewOf card past) (above past (e .stamp))
+    checks card (delaysOf card) (viewOf card past) (above past (e .stamp))
     (firstFailing lpddr3 (interval card) (countedStamps past) (e .stamp))
     (failingAt lpddr3 (interval card) (countedStamps (taken card past e ∷ past)) (e .stamp))
     (read card (viewOf card past) e) (e .stamp)

@@ -11,7 +11,7 @@ use lib.ListN.{take, getElem?}
 use lib.Signed.{leZ}
 use Rattle.rules.specs.Lists.{all}
 use Rattle.rules.specs.Card.{Card}
-use Rattle.rules.specs.Units.{interval}
+use Rattle.rules.specs.Units.{interval, delaysOf}
 use Rattle.rules.specs.Commands.{Command, banks}
 use Rattle.rules.specs.Registers.{mr2Good}
 use Rattle.rules.specs.Ranges.{cardGood}
@@ -172,7 +172,7 @@ stepRefusal l e =
     let t = e .stamp in
     firstOf (
     unless (lentGood l) 13 ∷
-    checks (l .card) (viewIn l) (aboveLast (l .last) t && leb (l .ledger .at) t) (failingTo I (l .ledger) t) (failingOf I (ledgerWith l e))
+    checks (l .card) (delaysOf (l .card)) (viewIn l) (aboveLast (l .last) t && leb (l .ledger .at) t) (failingTo I (l .ledger) t) (failingOf I (ledgerWith l e))
     (read (l .card) (viewIn l) e) t
     )
 

@@ -1,31 +1,31 @@
 use lib.Dec.{lit<}
 use borrow.Author.Needs.{needs}
 use Rattle.rules.specs.Units.{delaysOf}
-use Rattle.card.specs.Values.{Counted, clocksOf, cardOf}
+use Rattle.card.specs.Values.{Counted, clocksOf, shortened, cardOf}
 use Rattle.card.proofs.timings.delays_of.Statement.{statement}
 use Rattle.card.proofs.timings.delays_of.Tie as tie
 
 returns : tie.Need-returns
-unfolding Counted clocksOf delaysOf cardOf
+unfolding Counted clocksOf shortened delaysOf cardOf
 returns c =
-    let at = c .before .before .before .before .before .before .before .before .before .before .before .before .before .before .before .all-clocks .ensures in
-    let rc = c .before .before .before .before .before .before .before .before .before .before .before .before .before .before .row-cycle .ensures in
+    let at = c .before .all-clocks .ensures in
+    let rc = c .row-cycle .ensures in
     λ i. record {
-      trcd = at 0 (lit< tt) i .0;
-      trppb = at 1 (lit< tt) i .0;
-      trpab = at 2 (lit< tt) i .0;
-      tras = at 3 (lit< tt) i .0;
-      trc = rc i .0;
-      trrd = at 4 (lit< tt) i .0;
-      tfaw = at 5 (lit< tt) i .0;
-      trtp = at 6 (lit< tt) i .0;
-      twr = at 7 (lit< tt) i .0;
-      twtr = at 8 (lit< tt) i .0;
-      tdqsck = at 9 (lit< tt) i .0;
-      trfcab = at 10 (lit< tt) i .0;
-      trfcpb = at 11 (lit< tt) i .0;
-      tmrr = at 12 (lit< tt) i .0;
-      tmrw = at 13 (lit< tt) i .0;
+      trcd = at 0 (lit< tt) i;
+      trppb = at 1 (lit< tt) i;
+      trpab = at 2 (lit< tt) i;
+      tras = at 3 (lit< tt) i;
+      trc = rc i;
+      trrd = at 4 (lit< tt) i;
+      tfaw = at 5 (lit< tt) i;
+      trtp = at 6 (lit< tt) i;
+      twr = at 7 (lit< tt) i;
+      twtr = at 8 (lit< tt) i;
+      tdqsck = at 9 (lit< tt) i;
+      trfcab = at 10 (lit< tt) i;
+      trfcpb = at 11 (lit< tt) i;
+      tmrr = at 12 (lit< tt) i;
+      tmrw = at 13 (lit< tt) i;
     }
 
 pub delays-of-spec : {M : Type 1} → statement M

@@ -1,16 +1,17 @@
 use mathlib.Core.Path.{ap, _∙_}
 use borrow.Author.Needs.{needs}
 use Rattle.rules.specs.Units.{n}
-use Rattle.card.specs.Values.{clk, cardOf}
+use Rattle.card.specs.Values.{clk, clipped, cardOf}
+use Rattle.card.specs.declared.Clocks.{Clocks}
 use Rattle.card.proofs.timings.timing_clocks.Statement.{statement}
 use Rattle.card.proofs.timings.timing_clocks.Tie as tie
 
 returns : tie.Need-returns
 unfolding n cardOf
 returns c =
-    let t = c .before .before .timing .ensures in
-    c .least-clocks .ensures ∙ ap clk (rw (t .duration-is, t .floor-is, c .before .picoseconds .ensures .0))
+    let t = c .before .before .before .timing .ensures in
+    c .short .ensures ∙ ap (λ (k : Clocks). clipped (k .0)) (c .before .least-clocks .ensures ∙ ap clk (rw (t .duration-is, t .floor-is, c .before .before .picoseconds .ensures .0)))
 
 pub timing-clocks-spec : {M : Type 1} → statement M
 timing-clocks-spec =
-    tie.close (tie.spec (λ c κs. search needs) (λ c κs. search needs) (λ c κs. search needs) returns)
+    tie.close (tie.spec (λ c κs. search needs) (λ c κs. search needs) (λ c κs. search needs) (λ c κs. search needs) returns)

@@ -1,0 +1,299 @@
+// What an entry that was taken changes in the record.
+ghost use mathlib.Core.Path.{_≡_};
+ghost use lib.ListN.{set};
+ghost use Rattle.rules.specs.Past.{registerAfter};
+ghost use Rattle.pins.specs.Values.{commandOf};
+ghost use Rattle.bank.specs.After.{Changed, onceAt, notedAt, putEach, putNoted, shifted, counterOn, pushedOn, fourAfter, latestAfter, busAfter, openedAfter, readOn, writtenOn, stampedAfter, banksAfter};
+use crate::Banks;
+use crate::Bus;
+use crate::Each;
+use crate::Four;
+use crate::Latest;
+use crate::Noted;
+use crate::NotedEach;
+use crate::Once;
+use crate::Record;
+use ledger::Ledger;
+use pins::Command;
+
+fn once_at(t: u32) -> Once
+    ensures { λ r. ⌜ r ≡ onceAt t ⌝ }
+{
+    Once { seen: true, at: t }
+}
+
+fn noted_at(t: u32, mr2: u8) -> Noted
+    ensures { λ r. ⌜ r ≡ notedAt t mr2 ⌝ }
+{
+    Noted {
+        seen: true,
+        at: t,
+        mr2: mr2,
+    }
+}
+
+// A bank above 7 changes nothing.
+fn put(x: Each, bank: u8, t: u32) -> Each
+    ensures { λ r. ⌜ r ≡ putEach bank t x ⌝ }
+{
+    if 7 < bank {
+        return x;
+    }
+    let i = bank as usize;
+    let mut next = x;
+    next.seen[i] = true;
+    next.at[i] = t;
+    next
+}
+
+fn put_noted(x: NotedEach, bank: u8, t: u32, mr2: u8) -> NotedEach
+    ensures { λ r. ⌜ r ≡ putNoted bank t mr2 x ⌝ }
+{
+    if 7 < bank {
+        return x;
+    }
+    let i = bank as usize;
+    let mut next = x;
+    next.seen[i] = true;
+    next.at[i] = t;
+    next.mr2[i] = mr2;
+    next
+}
+
+fn shift(at: [u32; 4], t: u32) -> [u32; 4]
+    ensures { λ r. ⌜ r ≡ shifted t at ⌝ }
+{
+    [t, at[0], at[1], at[2]]
+}
+
+fn mr2_after(mr2: u8, command: Command) -> u8
+    ensures { λ r. ⌜ r ≡ registerAfter 2 (commandOf command) mr2 ⌝ }
+{
+    let Command::Mrw { ma, op } = command else {
+        return mr2;
+    };
+    if ma == 2 {
+        return op;
+    }
+    mr2
+}
+
+// A counter above 7 goes round as 7 does.
+fn counter_after(counter: u8, command: Command) -> u8
+    ensures { λ r. ⌜ r ≡ counterOn (commandOf command) counter ⌝ }
+{
+    match command {
+        Command::Refab => 0,
+        Command::Refpb => {
+            if 7 <= counter {
+                return 0;
+            }
+            counter + 1
+        }
+        _ => counter,
+    }
+}
+
+fn pushed(x: Four, t: u32) -> Four
+    ensures { λ r. ⌜ r ≡ pushedOn t x ⌝ }
+{
+    let at = x.at;
+    let count = x.count;
+    let next = shift(at, t);
+    if 4 <= count {
+        return Four { count: 4, at: next };
+    }
+    Four {
+        count: count + 1,
+        at: next,
+    }
+}
+
+fn four_after(x: Four, command: Command, t: u32) -> Four
+    ensures { λ r. ⌜ r ≡ fourAfter (commandOf command) t x ⌝ }
+{
+    match command {
+        Command::Act { .. } => pushed(x, t),
+        Command::Refpb => pushed(x, t),
+        _ => x,
+    }
+}
+
+fn latest_after(x: Latest, command: Command, t: u32) -> Latest
+    ensures { λ r. ⌜ r ≡ latestAfter (commandOf command) t x ⌝ }
+{
+    let now = once_at(t);
+    let mut next = x;
+    match command {
+        Command::Mrw { .. } => {
+            next.mrw = now;
+            next
+        }
+        Command::Mrr { .. } => {
+            next.mrr = now;
+            next
+        }
+        Command::Refab => {
+            next.refab = now;
+            next
+        }
+        Command::Refpb => {
+            next.refpb = now;
+            next
+        }
+        Command::Prea => {
+            next.prea = now;
+            next
+        }
+        _ => x,
+    }
+}
+
+// MR2 as it stood before the entry.
+fn bus_after(x: Bus, command: Command, t: u32, mr2: u8) -> Bus
+    ensures { λ r. ⌜ r ≡ busAfter (commandOf command) t mr2 x ⌝ }
+{
+    let now = noted_at(t, mr2);
+    let mut next = x;
+    match command {
+        Command::Mrr { .. } => {
+            next.turn = now;
+            next
+        }
+        Command::Rd { .. } => {
+            next.rd = once_at(t);
+            next.turn = now;
+            next
+        }
+        Command::Wr { .. } => {
+            next.wr = now;
+            next
+        }
+        _ => x,
+    }
+}
+
+// A bank above 7 changes nothing.
+fn mark(opened: [bool; 8], bank: u8, is: bool) -> [bool; 8]
+    ensures { λ r. ⌜ r ≡ set opened bank is ⌝ }
+{
+    if 7 < bank {
+        return opened;
+    }
+    let i = bank as usize;
+    let mut next = opened;
+    next[i] = is;
+    next
+}
+
+fn opened_after(opened: [bool; 8], command: Command) -> [bool; 8]
+    ensures { λ r. ⌜ r ≡ openedAfter (commandOf command) opened ⌝ }
+{
+    match command {
+        Command::Act { bank, .. } => mark(opened, bank, true),
+        Command::Rd { bank, ap, .. } => {
+            if ap {
+                return mark(opened, bank, false);
+            }
+            opened
+        }
+        Command::Wr { bank, ap, .. } => {
+            if ap {
+                return mark(opened, bank, false);
+            }
+            opened
+        }
+        Command::Pre { bank } => mark(opened, bank, false),
+        Command::Prea => [false; 8],
+        _ => opened,
+    }
+}
+
+fn read(x: Banks, bank: u8, ap: bool, t: u32) -> Banks
+    ensures { λ r. ⌜ r ≡ readOn bank ap t x ⌝ }
+{
+    let rd = x.rd;
+    let rda = x.rda;
+    let mut next = x;
+    next.rd = put(rd, bank, t);
+    if ap {
+        next.rda = put(rda, bank, t);
+        return next;
+    }
+    next
+}
+
+fn written(x: Banks, bank: u8, ap: bool, t: u32, mr2: u8) -> Banks
+    ensures { λ r. ⌜ r ≡ writtenOn bank ap t mr2 x ⌝ }
+{
+    let wr = x.wr;
+    let wra = x.wra;
+    let mut next = x;
+    next.wr = put_noted(wr, bank, t, mr2);
+    if ap {
+        next.wra = put_noted(wra, bank, t, mr2);
+        return next;
+    }
+    next
+}
+
+// The stamps of each bank alone.
+fn stamped(x: Banks, command: Command, counter: u8, t: u32, mr2: u8) -> Banks
+    ensures { λ r. ⌜ r ≡ stampedAfter (commandOf command) counter t mr2 x ⌝ }
+{
+    let refpb = x.refpb;
+    let pre = x.pre;
+    let act = x.act;
+    let mut next = x;
+    match command {
+        Command::Refpb => {
+            next.refpb = put(refpb, counter, t);
+            next
+        }
+        Command::Act { bank, .. } => {
+            next.act = put(act, bank, t);
+            next
+        }
+        Command::Rd { bank, ap, .. } => read(x, bank, ap, t),
+        Command::Wr { bank, ap, .. } => written(x, bank, ap, t, mr2),
+        Command::Pre { bank } => {
+            next.pre = put(pre, bank, t);
+            next
+        }
+        _ => x,
+    }
+}
+
+fn banks_after(x: Banks, command: Command, counter: u8, t: u32, mr2: u8) -> Banks
+    ensures { λ r. ⌜ r ≡ banksAfter (commandOf command) counter t mr2 x ⌝ }
+{
+    let opened = x.opened;
+    let mut next = stamped(x, command, counter, t, mr2);
+    let now = opened_after(opened, command);
+    next.opened = now;
+    next
+}
+
+// The record after an entry that was taken, with the ledger then.
+pub fn after(rec: Record, stamp: u32, command: Command, ledger: Ledger) -> Record
+    ensures { λ r. ⌜ Changed rec stamp (commandOf command) ledger r ⌝ }
+{
+    let mr2 = rec.mr2;
+    let counter = rec.counter;
+    let latest = rec.latest;
+    let bus = rec.bus;
+    let four = rec.four;
+    let banks = rec.banks;
+    let card = rec.card;
+    Record {
+        card: card,
+        mr2: mr2_after(mr2, command),
+        counter: counter_after(counter, command),
+        last: once_at(stamp),
+        latest: latest_after(latest, command, stamp),
+        bus: bus_after(bus, command, stamp, mr2),
+        four: four_after(four, command, stamp),
+        banks: banks_after(banks, command, counter, stamp, mr2),
+        ledger: ledger,
+    }
+}

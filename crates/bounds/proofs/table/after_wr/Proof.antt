@@ -1,0 +1,31 @@
+use borrow.Author.Needs.{needs}
+use Rattle.bounds.proofs.Ruled.{after-wr-are}
+use Rattle.bounds.proofs.table.after_wr.Statement.{statement}
+use Rattle.bounds.proofs.table.after_wr.Tie as tie
+
+returns : tie.Need-returns
+returns c =
+    let a = c .before .before .before .before .before .before .args in
+    rw (
+      after-wr-are (a .rec) (a .d) (a .command),
+      c .since2 .ensures,
+      c .before .wide2 .ensures .0,
+      c .before .before .since .ensures,
+      c .before .before .before .wide .ensures .0,
+      c .before .before .before .before .idle .ensures,
+      c .before .before .before .before .before .named .ensures,
+    )
+
+pub after-wr-spec : {M : Type 1} → statement M
+after-wr-spec =
+    tie.close
+    (tie.spec
+    (λ c κs. search needs)
+    (λ c κs. search needs)
+    (λ c κs. search needs)
+    (λ c. search needs)
+    (λ c κs. search needs)
+    (λ c κs. search needs)
+    (λ c. search needs)
+    (λ c κs. search needs)
+    returns)

@@ -1,0 +1,31 @@
+use borrow.Author.Needs.{needs}
+use Rattle.rules.specs.Commands.{code, is}
+use Rattle.bounds.proofs.Ruled.{bursts-is}
+use Rattle.bounds.proofs.table.bursts.Statement.{statement}
+use Rattle.bounds.proofs.table.bursts.Tie as tie
+
+returns : tie.Need-returns
+unfolding is code
+returns c =
+    let a = c .before .before .before .before .before .before .args in
+    rw (
+      bursts-is (a .rec) (a .d) (a .command),
+      c .later .ensures,
+      c .before .plain2 .ensures,
+      c .before .before .plain .ensures,
+      c .before .before .before .own-if2 .ensures,
+      c .before .before .before .before .own-if .ensures,
+      c .before .before .before .before .before .kind-of .ensures,
+    )
+
+pub bursts-spec : {M : Type 1} → statement M
+bursts-spec =
+    tie.close
+    (tie.spec
+    (λ c κs. search needs)
+    (λ c κs. search needs)
+    (λ c κs. search needs)
+    (λ c κs. search needs)
+    (λ c κs. search needs)
+    (λ c κs. search needs)
+    returns)

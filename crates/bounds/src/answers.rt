@@ -1,0 +1,165 @@
+// How a record answers the questions of the delay rules.
+ghost use mathlib.Core.Path.{_≡_};
+ghost use mathlib.Core.Bool.{false, cond, _&&_, not};
+ghost use mathlib.Core.List.{[]};
+ghost use lib.ListN.{getD, getElem?};
+ghost use Rattle.rules.specs.Lent.{lookIn};
+ghost use Rattle.bank.specs.Values.{once, each, four, lentOf, outweighed};
+ghost use Rattle.bounds.specs.Values.{onceAs, foundAs, askedFor, answerOf};
+use bank::Each;
+use bank::Four;
+use bank::Noted;
+use bank::NotedEach;
+use bank::Once;
+use bank::Record;
+
+// The latest entry of a kind, or of a kind to one bank; the first of the four latest activations; the latest RD or MRR.
+pub enum Ask {
+    Mrw,
+    Mrr,
+    Refab,
+    Refpb,
+    RefpbTo,
+    PreTo,
+    PreaTo,
+    ActTo,
+    FourthLast,
+    Rd,
+    Wr,
+    RdOrMrr,
+    RdTo,
+    RdaTo,
+    WrTo,
+    WraTo,
+}
+
+// An entry's stamp and MR2 as it stood there, if there is one; 0 where no rule goes by MR2.
+pub struct Found {
+    pub seen: bool,
+    pub at: u32,
+    pub mr2: u8,
+}
+
+// A bank above 7 has no entry.
+fn stamp_at(seen: [bool; 8], at: [u32; 8], bank: usize) -> Once
+    ensures { λ r. ⌜ r ≡ onceAs (getD seen bank false) (getD at bank 0) ⌝ }
+{
+    if 7 < bank {
+        return Once { seen: false, at: 0 };
+    }
+    Once {
+        seen: seen[bank],
+        at: at[bank],
+    }
+}
+
+fn mr2_at(mr2: [u8; 8], bank: usize) -> u8
+    ensures { λ r. ⌜ r ≡ getD mr2 bank 0 ⌝ }
+{
+    if 7 < bank {
+        return 0;
+    }
+    mr2[bank]
+}
+
+fn of_once(x: Once) -> Found
+    ensures { λ r. ⌜ r ≡ foundAs (x .seen) (x .at) 0 ⌝ }
+{
+    Found {
+        seen: x.seen,
+        at: x.at,
+        mr2: 0,
+    }
+}
+
+fn of_noted(x: Noted) -> Found
+    ensures { λ r. ⌜ r ≡ foundAs (x .seen) (x .at) (x .mr2) ⌝ }
+{
+    Found {
+        seen: x.seen,
+        at: x.at,
+        mr2: x.mr2,
+    }
+}
+
+fn of_each(x: Each, bank: usize) -> Found
+    ensures { λ r. ⌜ r ≡ foundAs (getD (x .seen) bank false) (getD (x .at) bank 0) 0 ⌝ }
+{
+    let seen = x.seen;
+    let at = x.at;
+    of_once(stamp_at(seen, at, bank))
+}
+
+fn of_noted_each(x: NotedEach, bank: usize) -> Found
+    ensures { λ r. ⌜ r ≡ foundAs (getD (x .seen) bank false) (getD (x .at) bank 0) (getD (x .mr2) bank 0) ⌝ }
+{
+    let seen = x.seen;
+    let at = x.at;
+    let mr2 = x.mr2;
+    let once = stamp_at(seen, at, bank);
+    Found {
+        seen: once.seen,
+        at: once.at,
+        mr2: mr2_at(mr2, bank),
+    }
+}
+
+// A precharge counts unless the other kind came later.
+fn unless_later(x: Once, other: Once) -> Found
+    ensures { λ r. ⌜ r ≡ foundAs (x .seen && not (outweighed (x .seen) (other .seen) (x .at) (other .at))) (x .at) 0 ⌝ }
+{
+    Found {
+        seen: x.seen & !(x.seen & other.seen & (x.at < other.at)),
+        at: x.at,
+        mr2: 0,
+    }
+}
+
+fn of_pre(pre: Each, prea: Once, bank: usize) -> Found
+    ensures { λ r. ⌜ answerOf r ≡ getElem? (cond (outweighed (getD (pre .seen) bank false) (prea .seen) (getD (pre .at) bank 0) (prea .at)) [] (each pre bank)) 0 ⌝ }
+{
+    let seen = pre.seen;
+    let at = pre.at;
+    unless_later(stamp_at(seen, at, bank), prea)
+}
+
+fn of_prea(pre: Each, prea: Once, bank: usize) -> Found
+    ensures { λ r. ⌜ answerOf r ≡ getElem? (cond (outweighed (prea .seen) (getD (pre .seen) bank false) (prea .at) (getD (pre .at) bank 0)) [] (once prea)) 0 ⌝ }
+{
+    let seen = pre.seen;
+    let at = pre.at;
+    unless_later(prea, stamp_at(seen, at, bank))
+}
+
+fn of_four(x: Four) -> Found
+    ensures { λ r. ⌜ answerOf r ≡ getElem? (four x) 3 ⌝ }
+{
+    Found {
+        seen: 4 <= x.count,
+        at: x.at[3],
+        mr2: 0,
+    }
+}
+
+pub fn look(rec: Record, ask: Ask, bank: usize) -> Found
+    ensures { λ r. ⌜ answerOf r ≡ lookIn (lentOf rec .history) (askedFor ask bank) ⌝ }
+{
+    match ask {
+        Ask::Mrw => of_once(rec.latest.mrw),
+        Ask::Mrr => of_once(rec.latest.mrr),
+        Ask::Refab => of_once(rec.latest.refab),
+        Ask::Refpb => of_once(rec.latest.refpb),
+        Ask::RefpbTo => of_each(rec.banks.refpb, bank),
+        Ask::PreTo => of_pre(rec.banks.pre, rec.latest.prea, bank),
+        Ask::PreaTo => of_prea(rec.banks.pre, rec.latest.prea, bank),
+        Ask::ActTo => of_each(rec.banks.act, bank),
+        Ask::FourthLast => of_four(rec.four),
+        Ask::Rd => of_once(rec.bus.rd),
+        Ask::Wr => of_noted(rec.bus.wr),
+        Ask::RdOrMrr => of_noted(rec.bus.turn),
+        Ask::RdTo => of_each(rec.banks.rd, bank),
+        Ask::RdaTo => of_each(rec.banks.rda, bank),
+        Ask::WrTo => of_noted_each(rec.banks.wr, bank),
+        Ask::WraTo => of_noted_each(rec.banks.wra, bank),
+    }
+}

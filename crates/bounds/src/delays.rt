@@ -1,0 +1,99 @@
+// What an entry permits, and the latest of what those of several banks do.
+ghost use mathlib.Core.Path.{_≡_};
+ghost use mathlib.Core.Bool.{cond};
+ghost use Prim.Native.Nat.{_<_, _^_, max};
+ghost use lib.Dec.{eqb};
+ghost use Rattle.rules.specs.Folds.{permittedBy};
+ghost use Rattle.rules.specs.Lent.{lookIn};
+ghost use Rattle.bank.specs.Values.{lentOf};
+ghost use Rattle.bounds.specs.declared.delays.Lag.the-variants.{Plain};
+ghost use Rattle.bounds.specs.Values.{delayIn, permittedAfter, sourcesOf, spanOf, answerOf, askedFor};
+use crate::answers::Ask;
+use crate::answers::Found;
+use crate::answers::look;
+use crate::spans::Span;
+use bank::Record;
+
+// What RL and WL as at the entry make of a delay: nothing; WL is added; RL is added and WL taken off.
+pub enum Lag {
+    Plain,
+    Written,
+    Turned,
+}
+
+pub fn later(a: u64, b: u64) -> u64
+    ensures { λ r. ⌜ r ≡ max a b ⌝ }
+{
+    if a < b {
+        return b;
+    }
+    a
+}
+
+fn delay_by(lag: Lag, clocks: u64, mr2: u8) -> u64
+    requires { ⌜ clocks < 2 ^ 40 ⌝ }
+    ensures { λ r. ⌜ (r ≡ delayIn lag clocks mr2) × (r < 2 ^ 41) ⌝ }
+{
+    let x = card::latency_of(mr2);
+    let rl = x.rl as u64;
+    let wl = x.wl as u64;
+    match lag {
+        Lag::Plain => clocks,
+        Lag::Written => wl + clocks,
+        Lag::Turned => {
+            if rl + clocks < wl {
+                return 0;
+            }
+            rl + clocks - wl
+        }
+    }
+}
+
+fn permits(found: Found, lag: Lag, clocks: u64) -> u64
+    requires { ⌜ clocks < 2 ^ 40 ⌝ }
+    ensures { λ r. ⌜ r ≡ permittedAfter lag clocks (answerOf found) ⌝ }
+{
+    if !found.seen {
+        return 0;
+    }
+    found.at as u64 + delay_by(lag, clocks, found.mr2)
+}
+
+fn at_bank(rec: Record, ask: Ask, bank: usize, but: u16, lag: Lag, clocks: u64) -> u64
+    requires { ⌜ clocks < 2 ^ 40 ⌝ }
+    ensures { λ r. ⌜ r ≡ cond (eqb bank but) 0 (permittedAfter lag clocks (lookIn (lentOf rec .history) (askedFor ask bank))) ⌝ }
+{
+    if bank == but as usize {
+        return 0;
+    }
+    permits(look(rec, ask, bank), lag, clocks)
+}
+
+// The first cycle that the entries found for these banks permit; 0 where there are none.
+pub fn since(rec: Record, ask: Ask, span: Span, lag: Lag, clocks: u64) -> u64
+    requires { ⌜ clocks < 2 ^ 40 ⌝ }
+    ensures { λ r. ⌜ r ≡ permittedBy (lookIn (lentOf rec .history)) (sourcesOf (spanOf span) ask lag clocks) ⌝ }
+{
+    let first = span.first as usize;
+    let count = span.count as usize;
+    let mut best: u64 = 0;
+    let mut k: usize = 0;
+    while k < count {
+        best = later(best, at_bank(rec, ask, first + k, span.but, lag, clocks));
+        k += 1;
+    }
+    best
+}
+
+// The same of a delay that does not go by RL or WL.
+pub fn plain(rec: Record, ask: Ask, span: Span, clocks: u32) -> u64
+    ensures { λ r. ⌜ r ≡ permittedBy (lookIn (lentOf rec .history)) (sourcesOf (spanOf span) ask Plain clocks) ⌝ }
+{
+    since(rec, ask, span, Lag::Plain, clocks as u64)
+}
+
+pub fn wide(clocks: u32) -> u64
+    ensures { λ r. ⌜ (r ≡ clocks) × (r < 2 ^ 32) ⌝ }
+{
+    clocks as u64
+}

@@ -1,0 +1,15 @@
+// Delay rules 1 to 18 over a record: the first cycle that each permits, the first rule broken, and the first cycle at which all hold.
+mod answers;
+mod delays;
+mod folds;
+mod spans;
+mod table;
+
+pub use folds::first_broken;
+pub use folds::first_cycle;
+
+// The lowest rule that is broken, with its first permitted cycle.
+pub enum Broken {
+    Nothing,
+    Rule { rule: u8, cycle: u64 },
+}

@@ -1,0 +1,5 @@
+-- Laws of texts that are put into a slice, of decimal numbers, of whole lines, and of the promises.
+pub mod Puts
+pub mod Decimals
+pub mod Joined
+pub mod Promises

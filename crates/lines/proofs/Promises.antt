@@ -1,0 +1,30 @@
+-- The promise of each public function determines its answer and what it leaves in the slice.
+use Rattle.rules.proofs.Determined.{Promise, Determined, determined, fact-of}
+use Rattle.lines.proofs.Puts.{one-written}
+use Rattle.lines.proofs.entries.entry_line as entry-line
+use Rattle.lines.proofs.verdicts.accepted_line as accepted-line
+use Rattle.lines.proofs.verdicts.refused_line as refused-line
+
+abbrev entry-line-says : Promise entry-line.ended
+entry-line-says w = entry-line.clauses (w .𝓤) (w .H) (w .𝓖 .A) (w .𝓜 .mem) (w .𝓡 .run)
+
+pub entry-line-determined : Determined entry-line.ended entry-line-says
+entry-line-determined =
+    determined entry-line.ended entry-line-says (λ κs a r e. fact-of _)
+    (λ κs a r r′ ws ws′ p p′. let one = one-written p p′ in (one .0, λ i. (one .1 i, (tt, (tt, (tt, tt))))))
+
+abbrev accepted-line-says : Promise accepted-line.ended
+accepted-line-says w = accepted-line.clauses (w .𝓤) (w .H) (w .𝓖 .A) (w .𝓜 .mem) (w .𝓡 .run)
+
+pub accepted-line-determined : Determined accepted-line.ended accepted-line-says
+accepted-line-determined =
+    determined accepted-line.ended accepted-line-says (λ κs a r e. fact-of _)
+    (λ κs a r r′ ws ws′ p p′. let one = one-written p p′ in (one .0, λ i. (one .1 i, (tt, (tt, (tt, tt))))))
+
+abbrev refused-line-says : Promise refused-line.ended
+refused-line-says w = refused-line.clauses (w .𝓤) (w .H) (w .𝓖 .A) (w .𝓜 .mem) (w .𝓡 .run)
+
+pub refused-line-determined : Determined refused-line.ended refused-line-says
+refused-line-determined =
+    determined refused-line.ended refused-line-says (λ κs a r e. fact-of _)
+    (λ κs a r r′ ws ws′ p p′. let one = one-written p p′ in (one .0, λ i. (one .1 i, (tt, (tt, (tt, (tt, tt)))))))

@@ -1,0 +1,52 @@
+// The line of an entry.
+ghost use mathlib.Core.List.{_++_};
+ghost use Prim.Native.Nat.{_+_, _≤_};
+ghost use lib.ListN.{length};
+ghost use Rattle.rules.specs.Lines.{entryLine};
+ghost use Rattle.pins.specs.Values.{commandOf};
+ghost use Rattle.lines.specs.Names.{shownPart};
+ghost use Rattle.lines.specs.Parts.{namePart, bankPart};
+ghost use Rattle.lines.specs.Written.{Put, Written};
+use crate::names::Shown;
+use crate::names::face_of;
+use crate::numbers::put_next;
+use crate::numbers::put_number;
+use crate::text::put_text;
+use pins::Command;
+
+fn put_shown(out: &mut [u8], at: usize, shown: Shown) -> usize
+    requires { ⌜ at + 4 ≤ length (now out) ⌝ }
+    ensures memory { λ r. ⌜ Put at (shownPart shown) (now (out .entry)) (now (out .exit)) r ⌝ }
+    ensures small { λ r. ⌜ r ≤ at + 4 ⌝ }
+{
+    match shown {
+        Shown::Bank(bank) => put_next(out, at, bank as u64),
+        Shown::Dash => put_text(out, at, b" -"),
+    }
+}
+
+fn put_command(out: &mut [u8], at: usize, command: Command, counter: u8) -> usize
+    requires { ⌜ at + 10 ≤ length (now out) ⌝ }
+    ensures memory { λ r. ⌜ Put at (namePart (commandOf command) ++ bankPart (commandOf command) counter) (now (out .entry)) (now (out .exit)) r ⌝ }
+    ensures small { λ r. ⌜ r ≤ at + 10 ⌝ }
+{
+    let face = face_of(command, counter);
+    let letters = face.0;
+    let size = face.1;
+    let shown = face.2;
+    let named = put_text(out, at, &letters[..size]);
+    put_shown(out, named, shown)
+}
+
+// The line of an entry that was taken at this round counter, at the start of `out`, and how many bytes it has. Where `out` has under 64 bytes of room
+// nothing is written and the answer is 0.
+pub fn entry_line(out: &mut [u8], stamp: u32, command: Command, counter: u8) -> usize
+    ensures { λ r. ⌜ Written (entryLine (record { stamp = stamp; cmd = commandOf command }) counter) (now (out .entry)) (now (out .exit)) r ⌝ }
+{
+    if out.len() < 64 {
+        return 0;
+    }
+    let stamped = put_number(out, 0, stamp as u64);
+    let shown = put_command(out, stamped, command, counter);
+    put_text(out, shown, b"\n")
+}

@@ -1,0 +1,52 @@
+// The line of the verdict.
+ghost use Prim.Native.Nat.{_+_, _≤_};
+ghost use lib.IntN.{subℕ};
+ghost use lib.ListN.{length};
+ghost use Rattle.rules.specs.File.{accepted, refused};
+ghost use Rattle.rules.specs.Lines.{verdictLine};
+ghost use Rattle.lines.specs.Parts.{owedPart};
+ghost use Rattle.lines.specs.Written.{Put, Written};
+use crate::numbers::put_next;
+use crate::numbers::put_number;
+use crate::text::put_text;
+
+fn put_owed(out: &mut [u8], at: usize, owed: u8) -> usize
+    requires { ⌜ at + 4 ≤ length (now out) ⌝ }
+    ensures memory { λ r. ⌜ Put at (owedPart owed) (now (out .entry)) (now (out .exit)) r ⌝ }
+    ensures small { λ r. ⌜ r ≤ at + 4 ⌝ }
+{
+    if owed < 8 {
+        let behind = put_text(out, at, b" -");
+        return put_number(out, behind, (8 - owed) as u64);
+    }
+    put_next(out, at, (owed - 8) as u64)
+}
+
+// The line of a file that is accepted, as entry_line writes one of an entry; `owed` is the ledger with 8 added.
+pub fn accepted_line(out: &mut [u8], commands: u64, refreshes: u64, owed: u8) -> usize
+    ensures { λ r. ⌜ Written (verdictLine (accepted commands refreshes (subℕ owed 8))) (now (out .entry)) (now (out .exit)) r ⌝ }
+{
+    if out.len() < 64 {
+        return 0;
+    }
+    let verdict = put_text(out, 0, b"accepted ");
+    let first = put_number(out, verdict, commands);
+    let second = put_next(out, first, refreshes);
+    let third = put_owed(out, second, owed);
+    put_text(out, third, b"\n")
+}
+
+// The line of a file that is refused.
+pub fn refused_line(out: &mut [u8], number: u8, rule: u8, offset: u64, cycle: u64) -> usize
+    ensures { λ r. ⌜ Written (verdictLine (refused number rule offset cycle)) (now (out .entry)) (now (out .exit)) r ⌝ }
+{
+    if out.len() < 64 {
+        return 0;
+    }
+    let verdict = put_text(out, 0, b"refused ");
+    let first = put_number(out, verdict, number as u64);
+    let second = put_next(out, first, rule as u64);
+    let third = put_next(out, second, offset);
+    let fourth = put_next(out, third, cycle);
+    put_text(out, fourth, b"\n")
+}

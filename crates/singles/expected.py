@@ -1,0 +1,274 @@
+#!/usr/bin/env python3
+# What singles is to write, from document 01: its rules over the list of earlier entries, its account cycle by cycle.
+#   python3 crates/singles/expected.py > crates/singles/stdout
+import importlib.util, pathlib
+
+# document 01's pins, one by one
+spec = importlib.util.spec_from_file_location("allpins", pathlib.Path(__file__).parents[1] / "allpins" / "expected.py")
+allpins = importlib.util.module_from_spec(spec)
+spec.loader.exec_module(allpins)
+
+TIMINGS = "tRCD tRPpb tRPab tRAS tRRD tFAW tRTP tWR tWTR tDQSCK tRFCab tRFCpb tMRR tMRW".split()
+BENCH = {
+    "period": 1250, "mr2": 0x1A, "R": 8192, "tREFI": 3900000,
+    "ps": [18000, 18000, 21000, 42000, 10000, 50000, 7500, 15000, 7500, 5500, 130000, 60000, 0, 0],
+    "floor": [3, 3, 3, 3, 2, 8, 4, 4, 4, 0, 0, 0, 4, 10],
+}
+# code: least period, RL, WL of set A, of set B
+LATENCIES = {
+    0b0001: (6000, 3, 1, 1), 0b0100: (2500, 6, 3, 3), 0b0110: (1875, 8, 4, 4), 0b0111: (1670, 9, 5, 5), 0b1000: (1500, 10, 6, 8),
+    0b1001: (1360, 11, 6, 9), 0b1010: (1250, 12, 6, 9), 0b1100: (1071, 14, 8, 11), 0b1110: (938, 16, 8, 13),
+}
+
+
+class Refused(Exception):
+    pass
+
+
+def refuse(when, *numbers):
+    if when:
+        raise Refused(*(numbers + (0, 0))[:3])
+
+
+# ---- the card
+def writable(period, mr2):
+    return not mr2 >> 7 & 1 and not mr2 >> 5 & 1 and mr2 & 15 in LATENCIES and LATENCIES[mr2 & 15][0] <= period
+
+
+def card_good(card):
+    return (938 <= card["period"] <= 100000 and writable(card["period"], card["mr2"]) and 1 <= card["R"] <= 16384
+            and card["period"] <= card["tREFI"] <= 20000000 and all(ps <= 1000000 for ps in card["ps"]))
+
+
+def rounded_up(ps, period):
+    return -(-ps // period)
+
+
+def clocks(card):
+    n = {name: max(card["floor"][i], rounded_up(card["ps"][i], card["period"])) for i, name in enumerate(TIMINGS)}
+    ras, rp = TIMINGS.index("tRAS"), TIMINGS.index("tRPpb")
+    n["tRC"] = max(card["floor"][ras] + card["floor"][rp], rounded_up(card["ps"][ras] + card["ps"][rp], card["period"]))
+    return n
+
+
+# ---- the list: each entry with its stamp, its kind, its bank, AP, and MR2 as it stood
+class Entry:
+    def __init__(self, stamp, kind, bank, ap, mr2):
+        self.stamp, self.kind, self.bank, self.ap, self.mr2 = stamp, kind, bank, ap, mr2
+
+    def rl(self):
+        return LATENCIES[self.mr2 & 15][1]
+
+    def wl(self):
+        return LATENCIES[self.mr2 & 15][3 if self.mr2 >> 6 & 1 else 2]
+
+
+class Judge:
+    """The list of entries taken so far; `odd` and `noted` are stamps and MR2 values that were put where the record remembers one."""
+
+    def __init__(self):
+        self.card = {k: v[:] if isinstance(v, list) else v for k, v in BENCH.items()}
+        self.mr2, self.counter, self.last, self.past = self.card["mr2"], 0, None, []
+        self.at, self.number, self.refreshed = 0, 0, 0
+        self.odd, self.noted = {}, {}
+
+    # ---- 13
+    def ledger_good(self):
+        return card_good(self.card) and -8 <= self.number <= 8 and self.refreshed <= self.at
+
+    def good(self):
+        stamps = [e.stamp for e in self.past if e.kind != "NOP"] + list(self.odd.values())
+        values = [self.mr2] + [e.mr2 for e in self.past if e.kind in ("RD", "WR", "MRR")] + list(self.noted.values())
+        by_last = all(self.last is not None and t <= self.last for t in stamps)
+        return (self.ledger_good() and all(writable(self.card["period"], v) for v in values) and by_last
+                and (self.last is None or self.last <= self.at) and self.counter <= 7)
+
+    # ---- the account
+    def cycle(self, t, ledger, due, counted):
+        number, refreshed = ledger
+        number += due and t % (self.card["tREFI"] // self.card["period"]) == 0
+        return (max(number - 1, -8), t) if counted else (number, refreshed)
+
+    def account(self, t, ledger):
+        refuse(ledger[0] > 8, 11, 19, t)
+        refuse(t - ledger[1] > 9 * (self.card["tREFI"] // self.card["period"]), 11, 20, t)
+
+    def idle(self, to):
+        ledger = self.number, self.refreshed
+        for t in range(self.at + 1, to + 1):
+            ledger = self.cycle(t, ledger, True, False)
+            self.account(t, ledger)
+        return ledger
+
+    # ---- the banks and the delay rules
+    def opened(self, bank):
+        is_open = False
+        for e in self.past:
+            if e.kind == "PREA" or e.bank == bank and (e.kind in ("ACT", "PRE") or e.kind in ("RD", "WR") and e.ap):
+                is_open = e.kind == "ACT"
+        return is_open
+
+    def state_good(self, kind, bank):
+        if kind in ("ACT", "REFpb"):
+            return not self.opened(bank)
+        if kind in ("RD", "WR"):
+            return self.opened(bank)
+        return kind not in ("REFab", "MRW") or not any(map(self.opened, range(8)))
+
+    def latest(self, kinds, bank=None, ap=None):
+        found = [e for e in self.past if e.kind in kinds and bank in (None, e.bank) and ap in (None, e.ap)]
+        return found[-1:]
+
+    def delays(self, kind, bank):
+        """(rule, first permitted cycle) for each clause of each rule that speaks of this command."""
+        n, latest = clocks(self.card), self.latest
+        everyone = range(8)
+        idle = everyone if kind in ("REFab", "MRW") else [bank] if kind in ("ACT", "REFpb") else []
+        named = everyone if kind == "PREA" else [bank] if kind == "PRE" else []
+        active = kind in ("ACT", "REFpb")
+
+        def after(rule, found, delay):
+            return [(rule, e.stamp + (delay(e) if callable(delay) else delay)) for e in found]
+
+        out = []
+        if kind != "NOP":
+            out += after(1, latest(["MRW"]), n["tMRW"]) + after(2, latest(["MRR"]), n["tMRR"]) + after(3, latest(["REFab"]), n["tRFCab"])
+        if kind in ("REFpb", "REFab", "MRW", "PREA"):
+            out += after(4, latest(["REFpb"]), n["tRFCpb"])
+        if kind in ("ACT", "PRE"):
+            out += after(4, latest(["REFpb"], bank), n["tRFCpb"])
+        for b in idle:
+            precharge = [e for e in self.past if e.kind == "PREA" or e.kind == "PRE" and e.bank == b][-1:]
+            out += after(5, [e for e in precharge if e.kind == "PRE"], n["tRPpb"])
+            out += after(6, [e for e in precharge if e.kind == "PREA"], n["tRPab"])
+            out += after(9, latest(["ACT"], b), n["tRC"])
+            out += after(16, latest(["RD"], b, True), max(4, n["tRTP"]) + n["tRPpb"])
+            out += after(18, latest(["WR"], b, True), lambda e: e.wl() + 5 + n["tWR"] + n["tRPpb"])
+        for b in named:
+            out += after(8, latest(["ACT"], b), n["tRAS"])
+            out += after(15, latest(["RD"], b), max(4, n["tRTP"]))
+            out += after(17, latest(["WR"], b), lambda e: e.wl() + 5 + n["tWR"])
+        if kind in ("RD", "WR"):
+            out += after(7, latest(["ACT"], bank), n["tRCD"])
+        for b in everyone:
+            if active and b != bank:
+                out += after(10, latest(["ACT"], b), n["tRRD"])
+            if kind == "ACT" and b != bank:
+                out += after(10, latest(["REFpb"], b), n["tRRD"])
+        if active:
+            four = [e for e in self.past if e.kind in ("ACT", "REFpb")][-4:]
+            out += after(11, four[:1] if len(four) == 4 else [], n["tFAW"])
+        if kind in ("RD", "MRR"):
+            out += after(12, latest(["RD"]), 4) + after(14, latest(["WR"]), lambda e: e.wl() + 5 + n["tWTR"])
+        if kind == "WR":
+            out += after(12, latest(["WR"]), 4) + after(13, latest(["RD", "MRR"]), lambda e: e.rl() + n["tDQSCK"] + 5 - e.wl())
+        return out
+
+    # ---- the calls
+    def step(self, stamp, pins):
+        refuse(not self.good(), 13)
+        refuse(self.last is not None and stamp <= self.last or stamp < self.at, 5)
+        before = self.idle(stamp - 1)
+        decoded = allpins.decode(pins)
+        refuse(decoded in (6, 7), decoded)
+        kind, numbers = decoded
+        bank = self.counter if kind == "REFpb" else numbers.get("bank")
+        refuse(not self.state_good(kind, bank), 8)
+        if kind == "MRW":
+            refuse(numbers["ma"] == 1 and numbers["op"] & 7 != 0b011, 9)
+            refuse(numbers["ma"] == 2 and not writable(self.card["period"], numbers["op"]), 9)
+        delays = self.delays(kind, bank)
+        for rule in range(1, 19):
+            first = max([cycle for r, cycle in delays if r == rule], default=0)
+            refuse(stamp < first, 10, rule, first)
+        counted = kind == "REFab" or kind == "REFpb" and self.counter == 7
+        ledger = self.cycle(stamp, before, self.at < stamp, counted)
+        self.account(stamp, ledger)
+        self.past.append(Entry(stamp, kind, bank, bool(numbers.get("ap")), self.mr2))
+        self.last, self.at, (self.number, self.refreshed) = stamp, stamp, ledger
+        if kind == "MRW" and numbers["ma"] == 2:
+            self.mr2 = numbers["op"]
+        self.counter = 0 if kind == "REFab" else (self.counter + 1) % 8 if kind == "REFpb" else self.counter
+        return "taken"
+
+    def end(self, cycle):
+        refuse(not self.good(), 13)
+        refuse(self.last is not None and cycle < self.last or cycle < self.at, 5)
+        return self.idle(cycle)[0]
+
+    def move(self, cycle):
+        refuse(not self.ledger_good(), 13)
+        refuse(cycle < self.at, 5)
+        (self.number, self.refreshed), self.at = self.idle(cycle), cycle
+        return self.number
+
+    def put(self, place, value):
+        if place in ("period", "R", "tREFI"):
+            self.card[place] = value
+        elif place == "starting":
+            self.card["mr2"] = value
+        elif place in TIMINGS:
+            self.card["ps"][TIMINGS.index(place)] = value
+        elif place.endswith("floor"):
+            self.card["floor"][TIMINGS.index(place[:-5])] = value
+        elif place == "last":
+            self.last = None if value == "none" else value
+        elif place == "four":
+            pass  # a count above 4: no refusal, and read as 4
+        elif place.startswith("at-"):
+            self.odd[place] = value
+        elif place.startswith("noted-"):
+            self.noted[place] = value
+        else:
+            assert hasattr(self, place), place
+            setattr(self, place, value)
+
+
+# ---- the cases, as document 01 writes them
+def pins_of(words):
+    kind, numbers = words[0], [int(w, 16) for w in words[1:]]
+    if kind == "pins":
+        return numbers[0]
+    names = {"REFPB": "REFpb", "REFAB": "REFab", "RDA": "RD", "WRA": "WR"}
+    fields = {"MRW": ("ma", "op"), "MRR": ("ma",), "ACT": ("bank",), "RD": ("bank",), "WR": ("bank",), "PRE": ("bank",)}
+    plain = names.get(kind, kind)
+    values = {"row": 0, "column": 0, "ap": kind in ("RDA", "WRA"), **dict(zip(fields.get(plain, ()), numbers))}
+    return allpins.pins_of(plain, values)
+
+
+def run(judge, call):
+    words = call.split()
+    if words[0] == "put":
+        return judge.put(words[1], words[2] if words[2] == "none" else int(words[2], 0))
+    if words[0] == "E":
+        return judge.end(int(words[1]))
+    if words[0] == "move":
+        return judge.move(int(words[1]))
+    return judge.step(int(words[-1]), pins_of(words[:-2]))
+
+
+def cases():
+    """(case, its calls): a line of cases.txt each, the calls between commas; a line that begins with # says what follows."""
+    text = (pathlib.Path(__file__).parent / "cases.txt").read_text()
+    lines = [line for line in text.split("\n") if line and not line.startswith("#")]
+    return [(case, [call.strip() for call in line.split(",")]) for case, line in enumerate(lines, 1)]
+
+
+def main():
+    for case, calls in cases():
+        judge = Judge()
+        for call in calls:
+            try:
+                told = run(judge, call)
+            except Refused as refused:
+                told = "refused %d %d %d" % refused.args
+            if told is not None:
+                print(case, told)
+    act = {"bank": 5, "row": 0x1234}
+    print(*allpins.pins_of("ACT", act).to_bytes(3, "big"))
+    kind, read = allpins.decode(0x20D2CA)
+    print(read["bank"], read["row"])
+
+
+if __name__ == "__main__":
+    main()

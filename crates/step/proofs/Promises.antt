@@ -1,0 +1,78 @@
+-- The promise of each public function determines its answer and the record that it leaves.
+use mathlib.Core.Path.{_≡_, refl, ap, sym, _∙_}
+use mathlib.Core.Bool.{cond}
+use mathlib.Core.Option.{Option, none, some}
+use lib.Dec.{eqb}
+use Rattle.rules.specs.Entries.{Entry}
+use Rattle.rules.specs.Checks.{Refusal, refusal}
+use Rattle.rules.specs.Lent as lent
+use Rattle.rules.proofs.Determined.{Promise, Determined, determined, fact-of}
+use Rattle.ledger.specs.declared.Ledger.{Ledger}
+use Rattle.ledger.specs.declared.Answer.the-variants.{Done}
+use Rattle.ledger.specs.declared.After.{After}
+use Rattle.ledger.specs.Values as paid
+use Rattle.ledger.proofs.Promises.{one-left}
+use Rattle.bank.specs.declared.Record.{Record}
+use Rattle.bank.specs.Values.{lentOf}
+use Rattle.bank.specs.After.{recordAfter}
+use Rattle.step.specs.declared.Answer.{Answer}
+use Rattle.step.specs.declared.Answer.the-variants.{Taken, BadRecord, Early, Overdue, WrongBits, Reserved, State, Value, TooSoon}
+use Rattle.step.specs.declared.Stepped.{Stepped}
+use Rattle.step.specs.Values.{refusalOf, Left}
+use Rattle.step.proofs.offering.offered as offered
+use Rattle.step.proofs.offering.step as step
+
+-- the case that has these numbers
+abbrev numbered : Refusal → Answer
+numbered x =
+    cond (eqb (x .number) 13) BadRecord (
+    cond (eqb (x .number) 5) Early (
+    cond (eqb (x .number) 11) (Overdue (x .rule) (x .cycle)) (
+    cond (eqb (x .number) 6) WrongBits (
+    cond (eqb (x .number) 7) Reserved (
+    cond (eqb (x .number) 8) State (
+    cond (eqb (x .number) 9) Value (TooSoon (x .rule) (x .cycle))))))))
+
+abbrev answerOf : Option Refusal → Answer
+answerOf none = Taken
+answerOf (some x) = numbered x
+
+answer-is : (y : Answer) → answerOf (refusalOf y) ≡ y
+unfolding refusalOf refusal
+answer-is Taken = refl
+answer-is BadRecord = refl
+answer-is Early = refl
+answer-is (Overdue q t) = refl
+answer-is WrongBits = refl
+answer-is Reserved = refl
+answer-is State = refl
+answer-is Value = refl
+answer-is (TooSoon q t) = refl
+
+-- two ledgers that are read so are one
+one-ledger : (l : lent.Ledger) (g h : Ledger) → paid.ledgerOf g ≡ l → paid.ledgerOf h ≡ l → g ≡ h
+unfolding paid.refusalOf paid.unlessRefused
+one-ledger l g h p q =
+    ap (λ (a : After). a .ledger)
+    (one-left none l l (paid.afterAs g Done) (paid.afterAs h Done) (record { told = refl; ledger = p }) (record { told = refl; ledger = q }))
+
+-- two that are told and left so are one
+pub one-stepped : (o : Option Refusal) (rec : Record) (e : Entry) (r s : Stepped) → Left o rec e r → Left o rec e s → r ≡ s
+one-stepped o rec e r s p q =
+    let a : r .answer ≡ s .answer = sym (answer-is (r .answer)) ∙ ap answerOf (p .told ∙ sym (q .told)) ∙ answer-is (s .answer) in
+    let g : r .rec .ledger ≡ s .rec .ledger = one-ledger _ _ _ (p .ledger) (q .ledger) in
+    let after : Ledger → Record = λ x. paid.unlessRefused o rec (recordAfter rec (lent.commandIn (lentOf rec) e) (e .stamp) x) in
+    let x : r .rec ≡ s .rec = p .is ∙ ap after g ∙ sym (q .is) in
+    λ i. record { rec = x i; answer = a i }
+
+abbrev offered-says : Promise offered.ended
+offered-says w = offered.clauses (w .𝓤) (w .H) (w .𝓖 .A) (w .𝓜 .mem) (w .𝓡 .run)
+
+pub offered-determined : Determined offered.ended offered-says
+offered-determined = determined offered.ended offered-says (λ κs a r e. fact-of _) (λ κs a r r′ ws ws′ p p′. (one-stepped _ _ _ r r′ p p′, refl))
+
+abbrev step-says : Promise step.ended
+step-says w = step.clauses (w .𝓤) (w .H) (w .𝓖 .A) (w .𝓜 .mem) (w .𝓡 .run)
+
+pub step-determined : Determined step.ended step-says
+step-determined = determined step.ended step-says (λ κs a r e. fact-of _) (λ κs a r r′ ws ws′ p p′. (one-stepped _ _ _ r r′ p p′, refl))

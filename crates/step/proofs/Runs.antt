@@ -1,0 +1,117 @@
+-- A run of steps over a list of entries, from a fresh record, goes through exactly when the rules hold, and judges each entry on the way as the list does. It is
+-- said of any function that keeps the promise of `step`.
+use Prim.Native.Nat.{_≤_, _<_}
+use mathlib.Core.Path.{_≡_, refl, ap, sym, _∙_}
+use mathlib.Core.Logic.{_↔_, ⊎-elim}
+use mathlib.Core.Bool.{true, false}
+use mathlib.Core.List.{List, [], _∷_}
+use mathlib.Core.Option.{Option, none, some, Option·map, map-eq-some-iff}
+use native.Mathlib.Omega.{arith}
+use lib.Dec.{leb}
+use borrow.Author.Tests.{le-ltb}
+use Rattle.rules.specs.Card as rules
+use Rattle.rules.specs.Ranges.{cardGood}
+use Rattle.rules.specs.Past.{Past}
+use Rattle.rules.specs.Folds.{orElse, firstOf}
+use Rattle.rules.specs.Entries.{Entry, pastOf}
+use Rattle.rules.specs.Checks.{Refusal, refusal, unless, checks, above, entryChecks, entryRefusal}
+use Rattle.rules.specs.Lent.{Lent, lentGood, stepRefusal, lentAfter, lastCycle, standingLedger, standing, fresh, AllTaken}
+use Rattle.rules.proofs.Tests.{le-cases}
+use Rattle.rules.proofs.Decided.{orElse-none}
+use Rattle.rules.proofs.Taken.{paid-to-last}
+use Rattle.rules.proofs.StepByList.{standsAt, step-by-list, step-below}
+use Rattle.rules.proofs.Steps.{runSteps, AllEntries, entries-taken, runs-iff}
+use Rattle.card.specs.declared.Card.{Card}
+use Rattle.card.specs.Values.{cardOf}
+use Rattle.ledger.specs.Values.{unlessRefused}
+use Rattle.bank.specs.declared.Record.{Record}
+use Rattle.bank.specs.Values.{lentOf, freshOf}
+use Rattle.bank.proofs.Beginning.{fresh-lent}
+use Rattle.step.specs.declared.Stepped.{Stepped}
+use Rattle.step.specs.Values.{refusalOf, Left}
+use Rattle.step.proofs.Split.{unless-none}
+
+-- each entry in turn; none at the first refusal
+unfoldable pub run : (Record → Entry → Stepped) → Record → List Entry → Option Record
+run f r [] = some r
+run f r (e ∷ es) = elim (refusalOf (f r e .answer)) [ none ↦ run f (f r e .rec) es | some x ↦ none ]
+
+abbrev pub Keeps : (Record → Entry → Stepped) → Type 0
+Keeps f = (r : Record) (e : Entry) → Left (stepRefusal (lentOf r) e) r e (f r e)
+
+-- the run through these entries, and then any one entry more. `stands` shuts out a step that leaves the record still, and `next`, at every list of entries, one
+-- whose later steps nod through
+pub record Judges (f : Record → Entry → Stepped) (card : Card) (es : List Entry) : Type 0 where
+  pub accepts : ((s : Record) × (run f (freshOf card) es ≡ some s)) ↔ AllEntries (cardOf card) [] es
+  pub stands : (s : Record) → run f (freshOf card) es ≡ some s → lentOf s ≡ standing (cardOf card) (pastOf (cardOf card) es) 0
+  pub next : (s : Record) → run f (freshOf card) es ≡ some s → (e : Entry) → refusalOf (f s e .answer) ≡ entryRefusal (cardOf card) (pastOf (cardOf card) es) e
+  pub still : (s : Record) → run f (freshOf card) es ≡ some s → (e : Entry) (x : Refusal) → entryRefusal (cardOf card) (pastOf (cardOf card) es) e ≡ some x → f s e .rec ≡ s
+
+-- ---- the list's own refusal, also below the cycle where the ledger stands
+early : (card : rules.Card) (past : Past) (e : Entry) → e .stamp < standsAt card past 0 → entryRefusal card past e ≡ some (refusal 5 0 0)
+unfolding standingLedger lastCycle entryRefusal entryChecks checks above firstOf orElse unless
+early card [] e h = absurd (omega arith)
+early card (x ∷ p) e h = rw (le-ltb (x .stamp) (e .stamp) (omega arith))
+
+pub by-list : (card : rules.Card) (past : Past) → cardGood card ≡ true → AllTaken card past → (e : Entry) → stepRefusal (standing card past 0) e ≡ entryRefusal card past e
+by-list card past good all e =
+    let paid = paid-to-last card good past all in
+    ⊎-elim
+    (λ (p : (standsAt card past 0 ≤ e .stamp) × (leb (standsAt card past 0) (e .stamp) ≡ true)). step-by-list card past 0 good all paid e (p .0))
+    (λ (p : (e .stamp < standsAt card past 0) × (leb (standsAt card past 0) (e .stamp) ≡ false)). step-below card past 0 good all paid e (p .0) ∙ sym (early card past e (p .0)))
+    (le-cases (standsAt card past 0) (e .stamp))
+
+sound-if : (l : Lent) (e : Entry) → stepRefusal l e ≡ none → lentGood l ≡ true
+unfolding stepRefusal firstOf
+sound-if l e n = unless-none (lentGood l) 13 (orElse-none (unless (lentGood l) 13) _ n .0)
+
+module _ (f : Record → Entry → Stepped) (keeps : Keeps f) where
+  after-it : (r : Record) (e : Entry) → stepRefusal (lentOf r) e ≡ none → lentOf (f r e .rec) ≡ lentAfter (lentOf r) e
+  unfolding unlessRefused
+  after-it r e n = rw n at (keeps r e .lent (sound-if (lentOf r) e n))
+
+  -- the run of records is the run of the rules' records
+  run-lent : (es : List Entry) (r : Record) → Option·map lentOf (run f r es) ≡ runSteps (lentOf r) es
+  unfolding run runSteps
+  run-lent [] r = refl
+  run-lent (e ∷ es) r = go (stepRefusal (lentOf r) e) refl (run-lent es (f r e .rec))
+    where
+      go : (o : Option Refusal) → stepRefusal (lentOf r) e ≡ o → Option·map lentOf (run f (f r e .rec) es) ≡ runSteps (lentOf (f r e .rec)) es →
+          Option·map lentOf (run f r (e ∷ es)) ≡ runSteps (lentOf r) (e ∷ es)
+      go none n ih =
+          let on : run f r (e ∷ es) ≡ run f (f r e .rec) es = rw (keeps r e .told ∙ n, run) in
+          let there : runSteps (lentOf r) (e ∷ es) ≡ runSteps (lentAfter (lentOf r) e) es = rw (n, runSteps) in
+          ap (λ (o : Option Record). Option·map lentOf o) on ∙ ih ∙ ap (λ (l : Lent). runSteps l es) (after-it r e n) ∙ sym there
+      go (some x) n ih =
+          let off : run f r (e ∷ es) ≡ none = rw (keeps r e .told ∙ n, run) in
+          let there : runSteps (lentOf r) (e ∷ es) ≡ none = rw (n, runSteps) in
+          ap (λ (o : Option Record). Option·map lentOf o) off ∙ sym there
+
+  module _ (card : Card) (good : cardGood (cardOf card) ≡ true) (es : List Entry) where
+    to-steps : (s : Record) → run f (freshOf card) es ≡ some s → runSteps (fresh (cardOf card)) es ≡ some (lentOf s)
+    to-steps s e = rw (← fresh-lent card) (sym (run-lent es (freshOf card)) ∙ ap (λ (o : Option Record). Option·map lentOf o) e)
+
+    holds : (s : Record) → run f (freshOf card) es ≡ some s → AllEntries (cardOf card) [] es × (lentOf s ≡ standing (cardOf card) (pastOf (cardOf card) es) 0)
+    holds s e = runs-iff (cardOf card) good es (lentOf s) .0 (to-steps s e)
+
+    goes : AllEntries (cardOf card) [] es → (s : Record) × (run f (freshOf card) es ≡ some s)
+    goes all =
+        let end = runs-iff (cardOf card) good es (standing (cardOf card) (pastOf (cardOf card) es) 0) .1 (all, refl) in
+        let from : runSteps (lentOf (freshOf card)) es ≡ some (standing (cardOf card) (pastOf (cardOf card) es) 0) = rw (fresh-lent card) end in
+        let p = map-eq-some-iff lentOf (run f (freshOf card) es) .0 (run-lent es (freshOf card) ∙ from) in
+        (p .0, p .1)
+
+    next-is : (s : Record) → run f (freshOf card) es ≡ some s → (e : Entry) → stepRefusal (lentOf s) e ≡ entryRefusal (cardOf card) (pastOf (cardOf card) es) e
+    next-is s r e =
+        let h = holds s r in
+        let all : AllTaken (cardOf card) (pastOf (cardOf card) es) = unfold pastOf in entries-taken (cardOf card) [] (unfold AllTaken in tt) es (h .0) in
+        rw (h .1) (by-list (cardOf card) (pastOf (cardOf card) es) good all e)
+
+    pub judges : Judges f card es
+    unfolding unlessRefused
+    judges = record {
+      accepts = (λ p. holds (p .0) (p .1) .0, goes);
+      stands = λ s r. holds s r .1;
+      next = λ s r e. keeps s e .told ∙ next-is s r e;
+      still = λ s r e x n. rw (next-is s r e ∙ n) at (keeps s e .is);
+    }

@@ -1,0 +1,55 @@
+-- What a step tells and leaves, read as the values of the rules.
+use Prim.Native.Nat.{ℕ}
+use mathlib.Core.Path.{_≡_}
+use mathlib.Core.Bool.{true, _&&_}
+use mathlib.Core.List.{_∷_}
+use mathlib.Core.Option.{Option, none, some}
+use lib.Dec.{leb}
+use Rattle.rules.specs.Units.{Delays, interval}
+use Rattle.rules.specs.Folds.{firstOf}
+use Rattle.rules.specs.Entries.{Entry, read}
+use Rattle.rules.specs.Checks.{Refusal, refusal, unless, checks}
+use Rattle.rules.specs.Lent.{Lent, viewIn, aboveLast, commandIn, failingTo, failingOf, ledgerGood, ledgerWith, lentGood, lentAfter}
+use Rattle.ledger.specs.Values.{ledgerOf, unlessRefused}
+use Rattle.bank.specs.declared.Record.{Record}
+use Rattle.bank.specs.Values.{lentOf}
+use Rattle.bank.specs.After.{recordAfter}
+use Rattle.step.specs.declared.Answer.{Answer}
+use Rattle.step.specs.declared.Answer.the-variants.{Taken, BadRecord, Early, Overdue, WrongBits, Reserved, State, Value, TooSoon}
+use Rattle.step.specs.declared.Stepped.{Stepped}
+
+-- document 01's number, rule and cycle of each case
+unfoldable pub refusalOf : Answer → Option Refusal
+refusalOf Taken = none
+refusalOf BadRecord = some (refusal 13 0 0)
+refusalOf Early = some (refusal 5 0 0)
+refusalOf (Overdue q t) = some (refusal 11 q t)
+refusalOf WrongBits = some (refusal 6 0 0)
+refusalOf Reserved = some (refusal 7 0 0)
+refusalOf State = some (refusal 8 0 0)
+refusalOf Value = some (refusal 9 0 0)
+refusalOf (TooSoon q t) = some (refusal 10 q t)
+
+abbrev pub steppedAs : Record → Answer → Stepped
+steppedAs rec a = record { rec = rec; answer = a }
+
+abbrev pub entryOf : (stamp pins : ℕ) → Entry
+entryOf t p = record { stamp = t; pins = p }
+
+-- a step by these delays, where 13 is asked of the ledger alone: for a caller who carries the delays beside a record that is known to be sound
+unfoldable pub offerRefusal : Delays → Lent → Entry → Option Refusal
+offerRefusal d l e =
+    let I = interval (l .card) in
+    let t = e .stamp in
+    firstOf (
+    unless (ledgerGood (l .card) (l .ledger)) 13 ∷
+    checks (l .card) d (viewIn l) (aboveLast (l .last) t && leb (l .ledger .at) t) (failingTo I (l .ledger) t) (failingOf I (ledgerWith l e))
+    (read (l .card) (viewIn l) e) t
+    )
+
+-- this refusal, or none, is told; the record then is the one after the entry, or on a refusal the old one, to the bit; and what it is to the rules
+pub record Left (o : Option Refusal) (rec : Record) (e : Entry) (r : Stepped) : Type 0 where
+  pub told : refusalOf (r .answer) ≡ o
+  pub is : r .rec ≡ unlessRefused o rec (recordAfter rec (commandIn (lentOf rec) e) (e .stamp) (r .rec .ledger))
+  pub ledger : ledgerOf (r .rec .ledger) ≡ unlessRefused o (ledgerOf (rec .ledger)) (ledgerWith (lentOf rec) e)
+  pub lent : lentGood (lentOf rec) ≡ true → lentOf (r .rec) ≡ unlessRefused o (lentOf rec) (lentAfter (lentOf rec) e)

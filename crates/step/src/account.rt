@@ -1,0 +1,96 @@
+// The stamp against the last entry's, and the refresh account.
+ghost use mathlib.Core.Path.{_≡_};
+ghost use Rattle.rules.specs.Past.{isCounted};
+ghost use Rattle.rules.specs.Lent.{aboveLast};
+ghost use Rattle.card.specs.Values.{cardOf};
+ghost use Rattle.pins.specs.Values.{commandOf};
+ghost use Rattle.ledger.specs.Values as paid;
+ghost use Rattle.bank.specs.Values.{lastOf};
+ghost use Rattle.step.specs.Values.{refusalOf};
+ghost use Rattle.step.specs.Parts.{AccountAt, openingOf};
+use crate::Answer;
+use bank::Once;
+use card::Card;
+use ledger::Ledger;
+use pins::Command;
+
+// 13 of the ledger, 5 and 11 below the stamp; then, where none of them is given, 11 at the stamp; and the ledger there.
+pub struct Account {
+    pub opening: Answer,
+    pub here: Answer,
+    pub ledger: Ledger,
+}
+
+fn rises(last: Once, stamp: u32) -> bool
+    ensures { λ r. ⌜ r ≡ aboveLast (lastOf last) stamp ⌝ }
+{
+    if !last.seen {
+        return true;
+    }
+    last.at < stamp
+}
+
+pub fn counts(command: Command, counter: u8) -> bool
+    ensures { λ r. ⌜ r ≡ isCounted (commandOf command) counter ⌝ }
+{
+    match command {
+        Command::Refab => true,
+        Command::Refpb => counter == 7,
+        _ => false,
+    }
+}
+
+// Of what the account tells, all but an 11 at the stamp.
+fn opening(rises: bool, told: ledger::Answer, stamp: u32) -> Answer
+    ensures { λ r. ⌜ refusalOf r ≡ openingOf rises stamp (paid.refusalOf told) ⌝ }
+{
+    match told {
+        ledger::Answer::BadRecord => Answer::BadRecord,
+        ledger::Answer::Earlier => Answer::Early,
+        ledger::Answer::Done => {
+            if rises {
+                return Answer::Taken;
+            }
+            Answer::Early
+        }
+        ledger::Answer::Overdue { rule, cycle } => {
+            if !rises {
+                return Answer::Early;
+            }
+            if cycle < stamp as u64 {
+                return Answer::Overdue {
+                    rule: rule,
+                    cycle: cycle,
+                };
+            }
+            Answer::Taken
+        }
+    }
+}
+
+fn as_told(told: ledger::Answer) -> Answer
+    ensures { λ r. ⌜ refusalOf r ≡ paid.refusalOf told ⌝ }
+{
+    match told {
+        ledger::Answer::Done => Answer::Taken,
+        ledger::Answer::BadRecord => Answer::BadRecord,
+        ledger::Answer::Earlier => Answer::Early,
+        ledger::Answer::Overdue { rule, cycle } => Answer::Overdue {
+            rule: rule,
+            cycle: cycle,
+        },
+    }
+}
+
+pub fn account_at(card: Card, last: Once, ledger: Ledger, stamp: u32, counted: bool) -> Account
+    ensures { λ r. ⌜ AccountAt counted (cardOf card) (lastOf last) (paid.ledgerOf ledger) stamp r ⌝ }
+{
+    let after = ledger::entered(ledger, card, stamp, counted);
+    let told = after.answer;
+    let there = after.ledger;
+    Account {
+        opening: opening(rises(last, stamp), told, stamp),
+        here: as_told(told),
+        ledger: there,
+    }
+}

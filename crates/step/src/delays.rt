@@ -1,0 +1,27 @@
+// The delay rules: 10.
+ghost use mathlib.Core.Path.{_≡_};
+ghost use Rattle.rules.specs.Checks.{named};
+ghost use Rattle.rules.specs.Folds.{firstBroken};
+ghost use Rattle.rules.specs.Delays.{delayRules};
+ghost use Rattle.rules.specs.Lent.{lookIn};
+ghost use Rattle.card.specs.Values.{clocksOf};
+ghost use Rattle.pins.specs.Values.{commandOf};
+ghost use Rattle.bank.specs.Values.{lentOf};
+ghost use Rattle.step.specs.Values.{refusalOf};
+use crate::Answer;
+use bank::Record;
+use bounds::Broken;
+use card::Delays;
+use pins::Command;
+
+pub fn delayed(rec: Record, delays: Delays, command: Command, stamp: u32) -> Answer
+    ensures { λ r. ⌜ refusalOf r ≡ named 10 (firstBroken (lookIn (lentOf rec .history)) (delayRules (clocksOf delays) (commandOf command) (rec .counter)) stamp) ⌝ }
+{
+    match bounds::first_broken(rec, delays, command, stamp) {
+        Broken::Nothing => Answer::Taken,
+        Broken::Rule { rule, cycle } => Answer::TooSoon {
+            rule: rule,
+            cycle: cycle,
+        },
+    }
+}

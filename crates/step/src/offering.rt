@@ -1,0 +1,111 @@
+// An entry offered to a record.
+ghost use mathlib.Core.Path.{_≡_};
+ghost use Rattle.rules.specs.Folds.{orElse};
+ghost use Rattle.rules.specs.Lent.{stepRefusal};
+ghost use Rattle.card.specs.Values.{clocksOf};
+ghost use Rattle.pins.specs.Values.{commandOf, decodedOf};
+ghost use Rattle.ledger.specs.Values.{isNone};
+ghost use Rattle.bank.specs.Values.{lentOf};
+ghost use Rattle.step.specs.Values.{refusalOf, steppedAs, offerRefusal, entryOf, Left};
+ghost use Rattle.step.specs.Parts.{judgedRefusal, Ruled, Settled};
+use crate::Answer;
+use crate::Stepped;
+use crate::account;
+use crate::delays;
+use crate::reading;
+use bank::Record;
+use card::Delays;
+use ledger::Ledger;
+use pins::Command;
+use pins::Decoded;
+
+// The answer, and the ledger at the stamp where it is taken.
+pub struct Ruling {
+    pub answer: Answer,
+    pub ledger: Ledger,
+}
+
+fn taken(answer: Answer) -> bool
+    ensures { λ r. ⌜ r ≡ isNone (refusalOf answer) ⌝ }
+{
+    match answer {
+        Answer::Taken => true,
+        _ => false,
+    }
+}
+
+// The first that is a refusal.
+fn or_else(first: Answer, then: Answer) -> Answer
+    ensures { λ r. ⌜ refusalOf r ≡ orElse (refusalOf first) (refusalOf then) ⌝ }
+{
+    if taken(first) {
+        return then;
+    }
+    first
+}
+
+// 6 to 10.
+fn judged(rec: Record, delays: Delays, decoded: Decoded, stamp: u32) -> Answer
+    ensures { λ r. ⌜ refusalOf r ≡ judgedRefusal (clocksOf delays) (lentOf rec) (decodedOf decoded) stamp ⌝ }
+{
+    let opened = rec.banks.opened;
+    let read = reading::reading(rec.card, opened, rec.counter, decoded);
+    let late = delays::delayed(rec, delays, reading::command_of(decoded), stamp);
+    or_else(read, late)
+}
+
+// 13 of the ledger, 5, 11 below the stamp; 6 to 10; 11 at the stamp.
+fn ruled(rec: Record, delays: Delays, decoded: Decoded, stamp: u32) -> Ruling
+    ensures { λ r. ⌜ Ruled (clocksOf delays) (lentOf rec) (decodedOf decoded) stamp r ⌝ }
+{
+    let counted = account::counts(reading::command_of(decoded), rec.counter);
+    let account = account::account_at(rec.card, rec.last, rec.ledger, stamp, counted);
+    let opening = account.opening;
+    let here = account.here;
+    let there = account.ledger;
+    let then = or_else(judged(rec, delays, decoded, stamp), here);
+    Ruling {
+        answer: or_else(opening, then),
+        ledger: there,
+    }
+}
+
+fn told(rec: Record, answer: Answer) -> Stepped
+    ensures { λ r. ⌜ r ≡ steppedAs rec answer ⌝ }
+{
+    Stepped {
+        rec: rec,
+        answer: answer,
+    }
+}
+
+// The record changes where the entry is taken, and only there.
+fn settled(rec: Record, stamp: u32, command: Command, ruling: Ruling) -> Stepped
+    ensures { λ r. ⌜ Settled rec stamp (commandOf command) ruling r ⌝ }
+{
+    let answer = ruling.answer;
+    let next = bank::after(rec, stamp, command, ruling.ledger);
+    if !taken(answer) {
+        return told(rec, answer);
+    }
+    told(next, answer)
+}
+
+// To a record that is known to be sound, with the delays of its card: 13 is asked of the ledger alone.
+pub fn offered(rec: Record, delays: Delays, stamp: u32, pins: u32) -> Stepped
+    ensures { λ r. ⌜ Left (offerRefusal (clocksOf delays) (lentOf rec) (entryOf stamp pins)) rec (entryOf stamp pins) r ⌝ }
+{
+    let decoded = pins::decode(pins);
+    let ruling = ruled(rec, delays, decoded, stamp);
+    settled(rec, stamp, reading::command_of(decoded), ruling)
+}
+
+// To any record.
+pub fn step(rec: Record, stamp: u32, pins: u32) -> Stepped
+    ensures { λ r. ⌜ Left (stepRefusal (lentOf rec) (entryOf stamp pins)) rec (entryOf stamp pins) r ⌝ }
+{
+    if !bank::good(rec) {
+        return told(rec, Answer::BadRecord);
+    }
+    offered(rec, card::delays_of(rec.card), stamp, pins)
+}

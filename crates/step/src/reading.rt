@@ -1,0 +1,99 @@
+// The pins, the bank state and the value: 6 to 9.
+ghost use mathlib.Core.Path.{_≡_};
+ghost use mathlib.Core.Bool.{false};
+ghost use lib.ListN.{getD};
+ghost use Rattle.rules.specs.States.{allClosed, stateGood};
+ghost use Rattle.rules.specs.Checks.{valueGood};
+ghost use Rattle.rules.specs.Pins.{good};
+ghost use Rattle.rules.specs.Entries as entries;
+ghost use Rattle.card.specs.Values.{cardOf};
+ghost use Rattle.pins.specs.Values.{commandOf, decodedOf};
+ghost use Rattle.step.specs.Values.{refusalOf};
+ghost use Rattle.step.specs.Parts.{readingRefusal};
+use crate::Answer;
+use card::Card;
+use pins::Command;
+use pins::Decoded;
+
+// Pins that are no command are taken for NOP.
+pub fn command_of(decoded: Decoded) -> Command
+    ensures { λ r. ⌜ commandOf r ≡ entries.commandOf (decodedOf decoded) ⌝ }
+{
+    match decoded {
+        Decoded::Good(command) => command,
+        Decoded::WrongBits => Command::Nop,
+        Decoded::Reserved => Command::Nop,
+    }
+}
+
+// A bank above 7 is not open.
+fn is_open(opened: [bool; 8], bank: u8) -> bool
+    ensures { λ r. ⌜ r ≡ getD opened bank false ⌝ }
+{
+    if 7 < bank {
+        return false;
+    }
+    opened[bank as usize]
+}
+
+fn all_closed(opened: [bool; 8]) -> bool
+    ensures { λ r. ⌜ r ≡ allClosed (λ b. getD opened b false) ⌝ }
+{
+    let mut i: usize = 0;
+    while i < 8 {
+        if opened[i] {
+            return false;
+        }
+        i += 1;
+    }
+    true
+}
+
+fn state_good(opened: [bool; 8], counter: u8, command: Command) -> bool
+    ensures { λ r. ⌜ r ≡ stateGood (λ b. getD opened b false) counter (commandOf command) ⌝ }
+{
+    match command {
+        Command::Act { bank, .. } => !is_open(opened, bank),
+        Command::Rd { bank, .. } => is_open(opened, bank),
+        Command::Wr { bank, .. } => is_open(opened, bank),
+        Command::Refpb => !is_open(opened, counter),
+        Command::Refab => all_closed(opened),
+        Command::Mrw { .. } => all_closed(opened),
+        Command::Mrr { .. } => true,
+        Command::Pre { .. } => true,
+        Command::Prea => true,
+        Command::Nop => true,
+    }
+}
+
+fn value_good(card: Card, command: Command) -> bool
+    ensures { λ r. ⌜ r ≡ valueGood (cardOf card) (commandOf command) ⌝ }
+{
+    let Command::Mrw { ma, op } = command else {
+        return true;
+    };
+    card::may_write(card.period, ma, op)
+}
+
+// 8, then 9.
+fn command_refused(card: Card, opened: [bool; 8], counter: u8, command: Command) -> Answer
+    ensures { λ r. ⌜ refusalOf r ≡ readingRefusal (cardOf card) (λ b. getD opened b false) counter (good (commandOf command)) ⌝ }
+{
+    if !state_good(opened, counter, command) {
+        return Answer::State;
+    }
+    if !value_good(card, command) {
+        return Answer::Value;
+    }
+    Answer::Taken
+}
+
+pub fn reading(card: Card, opened: [bool; 8], counter: u8, decoded: Decoded) -> Answer
+    ensures { λ r. ⌜ refusalOf r ≡ readingRefusal (cardOf card) (λ b. getD opened b false) counter (decodedOf decoded) ⌝ }
+{
+    match decoded {
+        Decoded::WrongBits => Answer::WrongBits,
+        Decoded::Reserved => Answer::Reserved,
+        Decoded::Good(command) => command_refused(card, opened, counter, command),
+    }
+}
