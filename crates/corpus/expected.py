@@ -1,0 +1,325 @@
+"""Writes the files of data/, the arguments, and stdout: what the program must print of them. Run it in this folder.
+
+Each file stands for a point of document 01. Where a refusal is expected it is written here by hand, from the document; paper.py works out the rest, and must
+come to the same refusal."""
+import os
+import shutil
+import sys
+
+sys.dont_write_bytecode = True
+import paper
+
+# ---- bytes
+def field(tag, value):
+    return bytes([tag]) + len(value).to_bytes(2, "big") + value
+
+
+def num(x, size):
+    return x.to_bytes(size, "big")
+
+
+BENCH = {"period": 1250, "mr2": 0x1A, "R": 8192, "tREFI": 3900000,
+         "tRCD": (18000, 3), "tRPpb": (18000, 3), "tRPab": (21000, 3), "tRAS": (42000, 3), "tRRD": (10000, 2), "tFAW": (50000, 8), "tRTP": (7500, 4),
+         "tWR": (15000, 4), "tWTR": (7500, 4), "tDQSCK": (5500, 0), "tRFCab": (130000, 0), "tRFCpb": (60000, 0), "tMRR": (0, 4), "tMRW": (0, 10)}
+
+
+def card_fields(**changed):
+    c = {**BENCH, **changed}
+    out = [field(1, num(c["period"], 4)), field(2, num(c["mr2"], 1)), field(3, num(c["R"], 2)), field(4, num(c["tREFI"], 4))]
+    return out + [field(5 + k, num(c[name][0], 4) + num(c[name][1], 1)) for k, name in enumerate(paper.TIMINGS)]
+
+
+def card(**changed):
+    return b"".join(card_fields(**changed))
+
+
+CKE = 1 << 21
+NOP, NOP_LOW = 3 << 20, CKE | 7
+REFPB, REFAB, PREA = CKE | 4, CKE | 12, CKE | 11 | 1 << 4
+RESERVED = CKE | 3
+
+
+def mrw(ma, op):
+    return CKE | ma << 4 | op << 12
+
+
+def mrr(ma):
+    return CKE | 8 | ma << 4
+
+
+def act(b, row=0):
+    return CKE | 2 | (row >> 8 & 31) << 2 | b << 7 | (row & 255) << 10 | (row >> 13 & 1) << 18 | (row >> 14 & 1) << 19
+
+
+def rd(b, ap=0):
+    return CKE | 5 | b << 7 | ap << 10
+
+
+def wr(b, ap=0):
+    return CKE | 1 | b << 7 | ap << 10
+
+
+def pre(b):
+    return CKE | 11 | b << 7
+
+
+def entry(t, pins):
+    return field(32, num(t, 4) + num(pins, 3))
+
+
+def end(e):
+    return field(33, num(e, 4))
+
+
+def trace(entries, e, head=None, tail=b""):
+    return (card() if head is None else head) + b"".join(entry(t, p) for t, p in entries) + end(e) + tail
+
+
+# ---- the cases: name, bytes, and the verdict by hand where it is a refusal (None: accepted)
+CASES = []
+
+
+def case(name, data, verdict=None):
+    CASES.append((name, data, verdict))
+
+
+def at(k):
+    """The offset of entry k, or of the end behind k entries."""
+    return 135 + 10 * k
+
+
+def good(name, entries, e, **changed):
+    case(name, trace(entries, e, card(**changed)))
+
+
+def bad(name, entries, e, number, rule=0, cycle=0, place=None, **changed):
+    place = len(entries) - 1 if place is None else place
+    case(name, trace(entries, e, card(**changed)), "refused %d %d %d %d" % (number, rule, at(place), cycle))
+
+
+def bound(name, entries, t, pins, rule, cycle, **changed):
+    """Refused one cycle early, taken at the first permitted cycle."""
+    assert t == cycle - 1
+    bad(name + "-early", entries + [(t, pins)], cycle + 20, 10, rule, cycle, **changed)
+    good(name + "-good", entries + [(cycle, pins)], cycle + 20, **changed)
+
+
+def bench_cases():
+    bound("bench-rcd", [(0, act(0))], 14, rd(0), 7, 15)
+    bound("bench-faw", [(8 * b, act(b)) for b in range(4)], 39, act(4), 11, 40)
+    bad("bench-faw-32", [(8 * b, act(b)) for b in range(5)], 60, 10, 11, 40)
+    bound("bench-rc", [(0, act(0)), (15, rd(0, 1))], 47, act(0), 9, 48)
+    bound("bench-wtr", [(0, act(0)), (15, wr(0))], 31, rd(0), 14, 32)
+    bound("bench-rd-wr", [(0, act(0)), (15, rd(0))], 30, wr(0), 13, 31)
+    good("bench-preall-pre-0", [(0, PREA), (1, pre(0)), (16, act(0))], 40)
+    bound("bench-preall-pre-1", [(0, PREA), (1, pre(0))], 16, act(1), 6, 17)
+    bound("bench-rfcab", [(0, REFAB)], 103, act(0), 3, 104)
+    bound("bench-wra", [(0, act(0)), (15, wr(0, 1))], 52, act(0), 18, 53)
+    good("bench-idle", [], 28079)
+    bad("bench-idle-late", [], 28080, 11, 19, 28080, place=0)
+    eight = [(104 * k, REFAB) for k in range(8)]
+    good("bench-eight", eight, 28808)
+    bad("bench-eight-late", eight, 28809, 11, 20, 28809, place=8)
+    bad("bench-mr2-19", [(0, mrw(2, 0x19))], 20, 9)
+    good("bench-mr2-1c", [(0, mrw(2, 0x1C))], 20)
+    good("bench-example", [(0, act(0)), (15, rd(0))], 20)
+    # must not pass: I rounded up; a ninth early refresh banked
+    bad("bench-interval", [], 9 * 3641, 11, 19, 9 * 3641, place=0, period=1071, mr2=0x1C)
+    nine = [(104 * k, REFAB) for k in range(9)]
+    good("bench-nine", nine, 832 + 28080)
+    bad("bench-nine-late", nine, 832 + 28081, 11, 20, 832 + 28081, place=9)
+
+
+def rule_cases():
+    bound("rule1-mrr", [(0, mrw(1, 3))], 9, mrr(4), 1, 10)
+    bound("rule1-pre", [(0, mrw(17, 0xFF))], 9, pre(3), 1, 10)
+    good("rule1-nop", [(0, mrw(1, 3)), (1, NOP)], 20)
+    bound("rule2", [(0, mrr(0))], 3, mrr(255), 2, 4)
+    bound("rule2-act", [(0, mrr(0))], 3, act(7), 2, 4)
+    bound("rule3", [(0, REFAB)], 103, PREA, 3, 104)
+    bound("rule4-refpb", [(0, REFPB)], 47, REFPB, 4, 48)
+    bound("rule4-refab", [(0, REFPB)], 47, REFAB, 4, 48)
+    bound("rule4-mrw", [(0, REFPB)], 47, mrw(1, 3), 4, 48)
+    bound("rule4-prea", [(0, REFPB)], 47, PREA, 4, 48)
+    bound("rule4-act", [(0, REFPB)], 47, act(0), 4, 48)
+    bound("rule4-pre", [(0, REFPB)], 47, pre(0), 4, 48)
+    good("rule4-other", [(0, REFPB), (8, act(1)), (20, pre(2)), (23, rd(1)), (27, mrr(0))], 60)
+    bound("rule5", [(0, pre(0))], 14, act(0), 5, 15)
+    bound("rule5-refab", [(0, pre(3))], 14, REFAB, 5, 15)
+    bound("rule6", [(0, PREA)], 16, act(5), 6, 17)
+    bound("rule6-mrw", [(0, pre(1)), (1, PREA)], 17, mrw(2, 0x5A), 6, 18)
+    bound("rule7-wr", [(0, act(6))], 14, wr(6), 7, 15)
+    bound("rule8", [(0, act(0))], 33, pre(0), 8, 34)
+    bound("rule8-prea", [(0, act(0)), (8, act(1))], 41, PREA, 8, 42)
+    bound("rule8-closed", [(0, act(0)), (15, rd(0, 1))], 33, pre(0), 8, 34)
+    bound("rule9-refab", [(0, act(0)), (15, rd(0, 1))], 47, REFAB, 9, 48)
+    bound("rule10", [(0, act(0))], 7, act(1), 10, 8)
+    bound("rule10-refpb-act", [(0, REFPB)], 7, act(1), 10, 8)
+    bound("rule10-act-refpb", [(0, act(1))], 7, REFPB, 10, 8)
+    bound("rule11-mixed", [(8 * b, act(b + 1)) for b in range(4)], 49, REFPB, 11, 50, tFAW=(62500, 8))
+    bound("rule12-rd", [(0, act(0)), (15, rd(0))], 18, rd(0), 12, 19)
+    bound("rule12-wr", [(0, act(0)), (15, wr(0))], 18, wr(0), 12, 19)
+    bound("rule12-mrr", [(0, act(0)), (15, rd(0))], 18, mrr(1), 12, 19)
+    bound("rule13-mrr", [(0, act(0)), (15, mrr(0))], 30, wr(0), 13, 31)
+    bound("rule14-mrr", [(0, act(0)), (15, wr(0))], 31, mrr(0), 14, 32)
+    bound("rule15", [(0, act(0)), (30, rd(0))], 35, pre(0), 15, 36)
+    bound("rule15-prea", [(0, act(0)), (30, rd(0))], 35, PREA, 15, 36)
+    bound("rule16", [(0, act(0)), (30, rd(0, 1))], 50, act(0), 16, 51)
+    bound("rule16-mrw", [(0, act(0)), (30, rd(0, 1))], 50, mrw(1, 3), 16, 51)
+    bound("rule17", [(0, act(0)), (15, wr(0))], 37, pre(0), 17, 38)
+    bound("rule17-closed", [(0, act(0)), (15, wr(0, 1))], 37, pre(0), 17, 38)
+    bound("rule18-refab", [(0, act(0)), (15, wr(0, 1))], 52, REFAB, 18, 53)
+    # 15 and 17 count with or without AP, 16 and 18 with AP only
+    good("rule16-no-ap", [(0, act(0)), (15, rd(0)), (34, pre(0)), (49, act(0))], 60)
+    # 12: the greatest over all banks of the one rule; the lowest rule broken is named
+    bad("lowest-rule", [(0, act(0)), (15, wr(0)), (16, pre(0))], 60, 10, 8, 34)
+    bad("greatest-bank", [(0, act(0)), (8, act(1)), (16, act(2)), (20, PREA)], 60, 10, 8, 50)
+
+
+def mr2_cases():
+    far = dict(tWTR=(100000, 4), tDQSCK=(100000, 4))
+    b = mrw(2, 0x5A)
+    bound("mr2-wl-of-then", [(0, act(0)), (15, wr(0, 1)), (60, b)], 105, mrr(0), 14, 106, **far)
+    bound("mr2-rl-of-then", [(0, act(0)), (15, rd(0, 1)), (60, mrw(2, 0x1C)), (75, act(1))], 105, wr(1), 13, 106, **far)
+    bound("mr2-wl-of-the-read", [(0, act(0)), (15, rd(0, 1)), (60, b), (75, act(1))], 105, wr(1), 13, 106, **far)
+    bound("mr2-new", [(0, b), (10, act(0)), (25, wr(0))], 44, rd(0), 14, 45)
+    # rule 13: the one latest of RD and MRR
+    bound("newer-mrr", [(0, act(0)), (15, rd(0)), (20, mrr(0))], 35, wr(0), 13, 36)
+    bound("newer-rd", [(0, act(0)), (15, mrr(0)), (20, rd(0))], 35, wr(0), 13, 36)
+    bound("newer-mrr-shorter", [(0, act(0)), (15, rd(0, 1)), (60, b), (70, mrr(0)), (75, act(1))], 157, wr(1), 13, 158, **far)
+
+
+def refusal_cases():
+    fields = card_fields()
+    case("1-empty", b"", "refused 1 0 0 0")
+    case("1-no-end", card(), "refused 1 0 135 0")
+    case("1-cut-end", card() + end(5)[:6], "refused 1 0 135 0")
+    case("1-one-length-byte", card() + bytes([32, 9]), "refused 1 0 135 0")
+    case("1-cut-first", field(1, num(1250, 4))[:5], "refused 1 0 0 0")
+    case("2-first", bytes([2, 0, 1, 26]), "refused 2 0 0 0")
+    case("2-last-byte", card() + bytes([34]), "refused 2 0 135 0")
+    case("2-entry-in-card", b"".join(fields[:4]) + entry(0, NOP), "refused 2 0 23 0")
+    case("2-card-tag-behind", card() + field(1, num(1250, 4)), "refused 2 0 135 0")
+    case("2-doubled", fields[0] + fields[0], "refused 2 0 7 0")
+    case("3-wrong", card() + bytes([32, 0, 8]), "refused 3 0 135 0")
+    case("3-before-cut", card() + bytes([33, 0, 3, 1]), "refused 3 0 135 0")
+    case("3-high-byte", card() + bytes([33, 1, 4]) + num(0, 4), "refused 3 0 135 0")
+    for name, lo, hi, place in (("period", 937, 100001, 0), ("R", 0, 16385, 11), ("tREFI", 1249, 20000001, 16)):
+        case("4-%s-low" % name, card(**{name: lo}), "refused 4 0 %d 0" % place)
+        case("4-%s-high" % name, card(**{name: hi}), "refused 4 0 %d 0" % place)
+    good("4-lowest", [], 100, period=938, R=1, tREFI=938 * 200, mr2=0x0E)
+    good("4-highest", [], 100, period=100000, R=16384, tREFI=20000000, mr2=0x01)
+    bad_mr2 = {"op7": 0x9A, "op5": 0x3A, "no-code": 0x12, "too-fast": 0x09}
+    for name, v in bad_mr2.items():
+        case("4-mr2-" + name, card(mr2=v), "refused 4 0 7 0")
+    good("4-mr2-op4-op6", [], 10, mr2=0x4A)
+    for k, name in enumerate(paper.TIMINGS):
+        case("4-" + name, card(**{name: (1000001, 0)}), "refused 4 0 %d 0" % (23 + 8 * k))
+    good("4-timings", [(0, act(0)), (1000, rd(0))], 1100, **{name: (1000000, 255) for name in paper.TIMINGS})
+    case("4-before-2", b"".join(card_fields(R=0)[:3]) + fields[5], "refused 4 0 11 0")
+    bad("5-same", [(7, NOP), (7, NOP)], 20, 5)
+    bad("5-below", [(7, NOP), (6, NOP)], 20, 5)
+    good("5-rises", [(7, NOP), (8, NOP)], 20)
+    good("5-first-at-0", [(0, NOP)], 0)
+    bad("5-end", [(7, NOP)], 6, 5, place=1)
+    good("5-end-same", [(7, NOP)], 7)
+    for i, pins in (("cke", NOP & ~CKE), ("22", NOP | 1 << 22), ("23", NOP | 1 << 23)):
+        bad("6-" + i, [(0, pins)], 20, 6)
+    bad("7-reserved", [(0, RESERVED)], 20, 7)
+    for ma in (0, 4, 10, 18, 63, 66, 129):
+        bad("7-ma-%d" % ma, [(0, mrw(ma, 3))], 20, 7)
+    good("7-mas", [(10 * k, mrw(ma, 3)) for k, ma in enumerate((1, 3, 11, 16, 17))], 60)
+    bad("8-act-open", [(0, act(0)), (100, act(0))], 200, 8)
+    bad("8-rd-closed", [(0, rd(0))], 20, 8)
+    bad("8-wr-other", [(0, act(0)), (15, wr(1))], 40, 8)
+    bad("8-refab-open", [(0, act(3)), (100, REFAB)], 200, 8)
+    bad("8-mrw-open", [(0, act(3)), (100, mrw(1, 3))], 200, 8)
+    bad("8-refpb-open", [(0, act(0)), (100, REFPB)], 200, 8)
+    good("8-refpb-other-open", [(0, act(1)), (100, REFPB)], 200)
+    bad("8-rda-closes", [(0, act(0)), (15, rd(0, 1)), (40, rd(0))], 200, 8)
+    good("8-pre-closed", [(0, pre(0)), (1, PREA)], 20)
+    bad("9-mr1", [(0, mrw(1, 4))], 20, 9)
+    good("9-mr1-high-bits", [(0, mrw(1, 0xFB))], 20)
+    bad("9-mr2-op7", [(0, mrw(2, 0x9A))], 20, 9)
+    case("12-byte", trace([(0, NOP)], 5) + b"\0", "refused 12 0 152 0")
+    case("12-second-end", trace([], 5) + end(6), "refused 12 0 142 0")
+
+
+def order_cases():
+    e = 28080
+    bad("order-5-6", [(7, NOP), (7, 0)], 20, 5)
+    bad("order-11-6", [(e + 1, 0)], e + 2, 11, 19, e)
+    bad("order-6-at-failing", [(e, 0)], e + 2, 6)
+    bad("order-7-at-failing", [(e, RESERVED)], e + 2, 7)
+    bad("order-8-at-failing", [(e, rd(0))], e + 2, 8)
+    bad("order-9-at-failing", [(e, mrw(2, 0x19))], e + 2, 9)
+    bad("order-10-at-failing", [(e - 1, pre(0)), (e, act(0))], e + 2, 10, 5, e + 14)
+    bad("order-11-at-failing", [(e, NOP)], e + 2, 11, 19, e)
+    good("order-refresh-saves", [(e, REFAB)], e + 2)
+    bad("order-8-9", [(0, act(0)), (5, mrw(2, 0x19))], 20, 8)
+    bad("order-7-8", [(0, act(0)), (5, mrw(4, 0x19))], 20, 7)
+    bad("order-9-10", [(0, mrw(1, 3)), (5, mrw(2, 0x19))], 20, 9)
+    bad("order-5-11-at-end", [(e - 5, NOP)], e - 6, 5, place=1)
+    case("order-11-12", trace([], e) + b"x", "refused 11 19 135 %d" % e)
+    case("order-12-good-end", trace([], e - 1) + b"x", "refused 12 0 142 0")
+    # 19 and 20 at one cycle: 19; the gap alone one cycle later
+    bad("order-19-20", [(1, REFAB)], 9 * 3120 + 5, 11, 20, 9 * 3120 + 2, place=1)
+
+
+def account_cases():
+    # a round of eight REFpb counts once, at counter 7; REFab in mid-round throws it away
+    eight = [(48 * k, REFPB) for k in range(8)]
+    good("round", eight, 336 + 28080)
+    bad("round-late", eight, 336 + 28081, 11, 20, 336 + 28081, place=8)
+    seven = eight[:7]
+    good("round-cut-short", seven, 28079)
+    bad("round-cut-short-late", seven, 28080, 11, 19, 28080, place=7)
+    good("round-thrown-away", [(48 * k, REFPB) for k in range(7)] + [(400, REFAB)] + [(504 + 48 * k, REFPB) for k in range(7)], 1000)
+    good("postponed-eight", [(28079, REFAB)], 31198)
+    bad("postponed-nine", [(28079, REFAB)], 31200, 11, 19, 31200, place=1)
+    good("due-at-the-stamp", [(3120, REFAB)], 3120)
+    good("due-not-twice", [(3120, NOP)], 3120)
+    good("credit", [(104 * k, REFAB) for k in range(12)], 2000)
+    good("credit-and-due", [(104 * k, REFAB) for k in range(29)] + [(3120, REFAB)], 3120)
+    bad("gap", [(100, REFAB), (204, REFAB)], 204 + 28081, 11, 20, 204 + 28081, place=2)
+
+
+def form_cases():
+    for k in (0, 1, 2, 3, 7, 8, 15):
+        good("nop-high-%d" % k, [(0, NOP | k), (1, NOP | 0xFFFFF & ~k)], 5)
+    for ca in (7, 15, 0x3FF, 0xFFFF7):
+        good("nop-low-%x" % ca, [(0, CKE | ca)], 5)
+    good("ignored-bits", [(0, REFAB | 0xFFFF0), (104, PREA | 0xFFF80 | 0x60), (121, act(2, 0x7FFF)), (136, rd(2) | 0x18), (140, mrr(7) | 0xFF000)], 200)
+    good("all-kinds", [(0, NOP), (1, mrw(3, 0)), (11, mrr(8)), (15, REFPB), (70, act(4, 0x1234)), (85, rd(4)), (101, wr(4)), (118, rd(4, 1)), (140, act(5)),
+                       (155, wr(5, 1)), (200, pre(5)), (210, PREA), (230, REFAB)], 400)
+
+
+def small():
+    return trace([(0, act(0)), (15, rd(0))], 20)
+
+
+for build in (bench_cases, rule_cases, mr2_cases, refusal_cases, order_cases, account_cases, form_cases):
+    build()
+
+shutil.rmtree("data", ignore_errors=True)
+os.mkdir("data")
+names, out = [], []
+for name, data, verdict in CASES:
+    lines = paper.judge(data)
+    if verdict is None:
+        assert lines[-1].startswith("accepted"), (name, lines)
+    else:
+        assert lines[-1] == verdict, (name, lines, verdict)
+    assert name not in names, name
+    names.append(name)
+    with open("data/" + name, "wb") as f:
+        f.write(data)
+    out += [name] + lines + lines[-1:]
+with open("data/cuts", "wb") as f:
+    f.write(small())
+out += ["cuts"] + [paper.judge(small()[:k])[-1] for k in range(len(small()) + 1)]
+with open("args", "w") as f:
+    f.write("".join("%s\n" % n for n in names) + "--cuts\ncuts\n")
+with open("stdout", "w") as f:
+    f.write("".join(x + "\n" for x in out))
+print(len(CASES), "files")

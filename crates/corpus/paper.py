@@ -1,0 +1,325 @@
+"""Document 01 in Python, over the list of entries: slow and plain, written from the document alone. It knows nothing of the Rattle code."""
+
+TIMINGS = ["tRCD", "tRPpb", "tRPab", "tRAS", "tRRD", "tFAW", "tRTP", "tWR", "tWTR", "tDQSCK", "tRFCab", "tRFCpb", "tMRR", "tMRW"]
+SIZES = {1: 4, 2: 1, 3: 2, 4: 4, **{5 + k: 5 for k in range(14)}, 32: 7, 33: 4}
+#       code: (least ps, RL, WL A, WL B)
+ROWS = {1: (6000, 3, 1, 1), 4: (2500, 6, 3, 3), 6: (1875, 8, 4, 4), 7: (1670, 9, 5, 5), 8: (1500, 10, 6, 8), 9: (1360, 11, 6, 9),
+        10: (1250, 12, 6, 9), 12: (1071, 14, 8, 11), 14: (938, 16, 8, 13)}
+MAS = {1, 2, 3, 11, 16, 17}
+
+
+def mr2_good(period, v):
+    return v & 0x80 == 0 and v & 0x20 == 0 and v & 15 in ROWS and ROWS[v & 15][0] <= period
+
+
+def rl(v):
+    return ROWS[v & 15][1]
+
+
+def wl(v):
+    return ROWS[v & 15][3 if v & 0x40 else 2]
+
+
+def up(d, p):
+    return -(-d // p)
+
+
+class Card:
+    """Fields by tag, as they come; a timing is (duration, floor)."""
+
+    def __init__(self):
+        self.timing = {}
+
+    def n(self, name):
+        d, f = self.timing[name]
+        return max(f, up(d, self.period))
+
+    def delays(self):
+        self.t = {k: self.n(k) for k in TIMINGS}
+        (a, f), (b, g) = self.timing["tRAS"], self.timing["tRPpb"]
+        self.t["tRC"] = max(f + g, up(a + b, self.period))
+        self.interval = self.trefi // self.period
+
+    def take(self, tag, value):
+        """Whether the value is in range; if so it is kept."""
+        x = int.from_bytes(value, "big")
+        if tag == 1:
+            self.period = x
+            return 938 <= x <= 100000
+        if tag == 2:
+            self.mr2 = x
+            return mr2_good(self.period, x)
+        if tag == 3:
+            return 1 <= x <= 16384
+        if tag == 4:
+            self.trefi = x
+            return self.period <= x <= 20000000
+        d = int.from_bytes(value[:4], "big")
+        self.timing[TIMINGS[tag - 5]] = (d, value[4])
+        return d <= 1000000
+
+
+class Cmd:
+    def __init__(self, kind, bank=None, ap=False, ma=0, op=0):
+        self.kind, self.bank, self.ap, self.ma, self.op = kind, bank, ap, ma, op
+
+
+def decode(pins):
+    """A command, or the number 6 or 7."""
+    if pins >> 21 != 1:
+        return 6
+    bit = lambda i: pins >> i & 1
+    run = lambda i, k: pins >> i & (1 << k) - 1
+    if bit(20):
+        return Cmd("NOP")
+    a, b, c, d = bit(0), bit(1), bit(2), bit(3)
+    bank = run(7, 3)
+    if (a, b, c) == (0, 0, 0):
+        ma = run(4, 8)
+        if d:
+            return Cmd("MRR", ma=ma)
+        return Cmd("MRW", ma=ma, op=run(12, 8)) if ma in MAS else 7
+    if (a, b, c) == (0, 0, 1):
+        return Cmd("REFAB" if d else "REFPB")
+    if (a, b) == (0, 1):
+        return Cmd("ACT", bank)
+    if (a, b) == (1, 0):
+        return Cmd("RD" if c else "WR", bank, ap=bit(10) == 1)
+    if (a, b, c) == (1, 1, 0):
+        if d == 0:
+            return 7
+        return Cmd("PREA") if bit(4) else Cmd("PRE", bank)
+    return Cmd("NOP")
+
+
+class Entry:
+    """An entry that was taken, with MR2 and the round counter as they stood before it."""
+
+    def __init__(self, t, cmd, mr2, counter):
+        self.t, self.cmd, self.mr2, self.counter = t, cmd, mr2, counter
+        self.bank = counter if cmd.kind == "REFPB" else cmd.bank
+
+
+def latest(past, test):
+    for e in reversed(past):
+        if test(e):
+            return e
+    return None
+
+
+def precharge(past, b):
+    return latest(past, lambda e: e.cmd.kind == "PREA" or e.cmd.kind == "PRE" and e.bank == b)
+
+
+def bounds(card, past, cmd, counter):
+    """(rule, first permitted cycle), for each entry that a rule counts from."""
+    t, k = card.t, cmd.kind
+    bank = counter if k == "REFPB" else cmd.bank
+    every = range(8)
+    idle = every if k in ("REFAB", "MRW") else [bank] if k in ("ACT", "REFPB") else []
+    pres = every if k == "PREA" else [bank] if k == "PRE" else []
+    of = lambda kind, b=None, ap=None: latest(past, lambda e: e.cmd.kind == kind and (b is None or e.bank == b) and (ap is None or e.cmd.ap == ap))
+    out = []
+
+    def rule(n, e, delay):
+        if e is not None:
+            out.append((n, e.t + delay(e) if callable(delay) else e.t + delay))
+
+    if k != "NOP":
+        rule(1, of("MRW"), t["tMRW"])
+        rule(2, of("MRR"), t["tMRR"])
+        rule(3, of("REFAB"), t["tRFCab"])
+    if k in ("REFPB", "REFAB", "MRW", "PREA"):
+        rule(4, of("REFPB"), t["tRFCpb"])
+    if k in ("ACT", "PRE"):
+        rule(4, of("REFPB", bank), t["tRFCpb"])
+    for b in idle:
+        p = precharge(past, b)
+        if p is not None:
+            rule(5 if p.cmd.kind == "PRE" else 6, p, t["tRPpb"] if p.cmd.kind == "PRE" else t["tRPab"])
+        rule(9, of("ACT", b), t["tRC"])
+        rule(16, of("RD", b, True), max(4, t["tRTP"]) + t["tRPpb"])
+        rule(18, of("WR", b, True), lambda e: wl(e.mr2) + 5 + t["tWR"] + t["tRPpb"])
+    if k in ("RD", "WR"):
+        rule(7, of("ACT", bank), t["tRCD"])
+    for b in pres:
+        rule(8, of("ACT", b), t["tRAS"])
+        rule(15, of("RD", b), max(4, t["tRTP"]))
+        rule(17, of("WR", b), lambda e: wl(e.mr2) + 5 + t["tWR"])
+    if k in ("ACT", "REFPB"):
+        for b in every:
+            if b != bank:
+                rule(10, of("ACT", b), t["tRRD"])
+                if k == "ACT":
+                    rule(10, of("REFPB", b), t["tRRD"])
+        four = [e for e in past if e.cmd.kind in ("ACT", "REFPB")]
+        if len(four) >= 4:
+            rule(11, four[-4], t["tFAW"])
+    if k in ("RD", "MRR"):
+        rule(12, of("RD"), 4)
+        rule(14, of("WR"), lambda e: wl(e.mr2) + 5 + t["tWTR"])
+    if k == "WR":
+        rule(12, of("WR"), 4)
+        rule(13, latest(past, lambda e: e.cmd.kind in ("RD", "MRR")), lambda e: rl(e.mr2) + t["tDQSCK"] + 5 - wl(e.mr2))
+    return out
+
+
+def first_broken(card, past, cmd, counter, t):
+    late = [(n, c) for n, c in bounds(card, past, cmd, counter) if c > t]
+    if not late:
+        return None
+    n = min(n for n, c in late)
+    return n, max(c for m, c in late if m == n)
+
+
+class Account:
+    """The ledger as after cycle `at`, and the last counted refresh."""
+
+    def __init__(self, interval):
+        self.i, self.at, self.owed, self.last = interval, 0, 0, 0
+
+    def first_failing(self, upto):
+        """The first cycle after `at` and not after `upto` at which 19 or 20 fails in idle time."""
+        found = []
+        gap = self.last + 9 * self.i + 1
+        if gap <= upto:
+            found.append((max(gap, self.at + 1), 20))
+        ninth = (self.at // self.i + 9 - self.owed) * self.i
+        if ninth <= upto:
+            found.append((ninth, 19))
+        return min(found) if found else None
+
+    def move(self, t):
+        self.owed += t // self.i - self.at // self.i
+        self.at = t
+
+    def refresh(self):
+        self.owed = max(-8, self.owed - 1)
+        self.last = self.at
+
+    def fails_here(self):
+        if self.owed > 8:
+            return 19
+        return 20 if self.at - self.last > 9 * self.i else 0
+
+
+class Judge:
+    def __init__(self, card):
+        card.delays()
+        self.card, self.past, self.account = card, [], Account(card.interval)
+        self.open, self.counter, self.mr2 = set(), 0, card.mr2
+
+    def state_good(self, cmd):
+        k = cmd.kind
+        if k == "ACT":
+            return cmd.bank not in self.open
+        if k in ("RD", "WR"):
+            return cmd.bank in self.open
+        if k in ("REFAB", "MRW"):
+            return not self.open
+        return k != "REFPB" or self.counter not in self.open
+
+    def entry(self, t, pins):
+        """None, or (number, rule, cycle)."""
+        if self.past and t <= self.past[-1].t:
+            return 5, 0, 0
+        late = self.account.first_failing(t - 1)
+        if late:
+            return 11, late[1], late[0]
+        cmd = decode(pins)
+        if isinstance(cmd, int):
+            return cmd, 0, 0
+        if not self.state_good(cmd):
+            return 8, 0, 0
+        if cmd.kind == "MRW" and (cmd.ma == 1 and cmd.op & 7 != 3 or cmd.ma == 2 and not mr2_good(self.card.period, cmd.op)):
+            return 9, 0, 0
+        broken = first_broken(self.card, self.past, cmd, self.counter, t)
+        if broken:
+            return 10, broken[0], broken[1]
+        counted = cmd.kind == "REFAB" or cmd.kind == "REFPB" and self.counter == 7
+        account = Account(self.card.interval)
+        account.at, account.owed, account.last = self.account.at, self.account.owed, self.account.last
+        account.move(t)
+        if counted:
+            account.refresh()
+        if account.fails_here():
+            return 11, account.fails_here(), t
+        self.account = account
+        self.change(Entry(t, cmd, self.mr2, self.counter))
+        return None
+
+    def change(self, e):
+        self.past.append(e)
+        k = e.cmd.kind
+        if k == "ACT":
+            self.open.add(e.bank)
+        if k == "PRE" or k in ("RD", "WR") and e.cmd.ap:
+            self.open.discard(e.bank)
+        if k == "PREA":
+            self.open.clear()
+        if k == "REFAB":
+            self.counter = 0
+        if k == "REFPB":
+            self.counter = (self.counter + 1) % 8
+        if k == "MRW" and e.cmd.ma == 2:
+            self.mr2 = e.cmd.op
+
+    def end(self, e):
+        if self.past and e < self.past[-1].t:
+            return 5, 0, 0
+        late = self.account.first_failing(e)
+        return (11, late[1], late[0]) if late else None
+
+    def counts(self, e):
+        self.account.move(e)
+        commands = sum(x.cmd.kind != "NOP" for x in self.past)
+        counted = sum(x.cmd.kind == "REFAB" or x.cmd.kind == "REFPB" and x.counter == 7 for x in self.past)
+        return commands, counted, self.account.owed
+
+    def line(self, e):
+        name = e.cmd.kind + ("A" if e.cmd.ap else "")
+        return "%d %s %s" % (e.t, name, "-" if e.bank is None else e.bank)
+
+
+def judge(data):
+    """The lines of a file, the verdict last."""
+    lines, at, tag, card, run = [], 0, 1, Card(), None
+
+    def refused(n, rule=0, cycle=0, offset=None):
+        return lines + ["refused %d %d %d %d" % (n, rule, at if offset is None else offset, cycle)]
+
+    while True:
+        if at == len(data):
+            return refused(1)
+        got = data[at]
+        if got not in ((32, 33) if tag > 18 else (tag,)):
+            return refused(2)
+        if len(data) < at + 3:
+            return refused(1)
+        size = data[at + 1] * 256 + data[at + 2]
+        if size != SIZES[got]:
+            return refused(3)
+        value = data[at + 3:at + 3 + size]
+        if len(value) < size:
+            return refused(1)
+        if got <= 18:
+            if not card.take(got, value):
+                return refused(4)
+            tag += 1
+            if tag > 18:
+                run = Judge(card)
+        elif got == 32:
+            bad = run.entry(int.from_bytes(value[:4], "big"), int.from_bytes(value[4:], "big"))
+            if bad:
+                return refused(*bad)
+            lines.append(run.line(run.past[-1]))
+        else:
+            e = int.from_bytes(value, "big")
+            bad = run.end(e)
+            if bad:
+                return refused(*bad)
+            behind = at + 3 + size
+            if behind < len(data):
+                return refused(12, offset=behind)
+            return lines + ["accepted %d %d %d" % run.counts(e)]
+        at += 3 + size

@@ -1,0 +1,68 @@
+-- Demands 2 and 3 of a verdict of the code that is the rules' own (proofs/Whole: the judge's is).
+use Prim.Native.Nat.{ℕ, _+_, _*_, _-_, _/_, _≤_, _<_}
+use mathlib.Core.Path.{_≡_, refl, ap, sym, _∙_}
+use mathlib.Core.Logic.{_⊎_, _↔_}
+use mathlib.Core.List.{List}
+use lib.IntN.{subℕ}
+use Rattle.rules.specs.Units.{interval}
+use Rattle.rules.specs.Past.{refreshStamps}
+use Rattle.rules.specs.Stretch.{countIn, Took}
+use Rattle.rules.specs.Form.{endOf}
+use Rattle.rules.specs.File.{FileVerdict, accepted, refused, judgeFile}
+use Rattle.rules.specs.FileReading.{Says, AcceptedFile}
+use Rattle.rules.proofs.FileExactly.{file-iff}
+use Rattle.rules.proofs.FileAccepted.{accepted-file-iff, cardIn, pastIn, refreshed-file, every-group-file, in-a-row-file}
+use Rattle.ledger.specs.Values.{stored}
+use Rattle.judge.specs.declared.Verdict.{Verdict}
+use Rattle.judge.specs.declared.Verdict.the-variants.{Accepted, Refused}
+use Rattle.judge.specs.Values.{verdictOf}
+use Rattle.judge.proofs.StandsEntry.{stored-is}
+
+-- ---- no two verdicts read as one
+codeFor : FileVerdict → Verdict
+codeFor (accepted m n l) = Accepted m n (stored l)
+codeFor (refused k q at t) = Refused k q at t
+
+code-for : (r : Verdict) → codeFor (verdictOf r) ≡ r
+unfolding verdictOf codeFor
+code-for (Accepted m n o) = ap (Accepted m n) (stored-is o)
+code-for (Refused k q at t) = refl
+
+pub one-reading : (r s : Verdict) → verdictOf r ≡ verdictOf s → r ≡ s
+one-reading r s e = sym (code-for r) ∙ ap codeFor e ∙ code-for s
+
+module _ (bytes : List ℕ) (r : Verdict) (e : verdictOf r ≡ judgeFile bytes) where
+  -- ---- demand 2: the verdict is this one exactly where the file says so
+  pub verdict-exactly : (s : Verdict) → (r ≡ s) ↔ Says bytes (verdictOf s)
+  verdict-exactly s =
+      let i = file-iff bytes (verdictOf s) in
+      (λ p. i .0 (sym e ∙ ap verdictOf p), λ h. one-reading r s (e ∙ i .1 h))
+
+  pub accepted-exactly : (m n o : ℕ) → (r ≡ Accepted m n o) ↔ AcceptedFile bytes m n (subℕ o 8)
+  unfolding verdictOf
+  accepted-exactly m n o =
+      let i = accepted-file-iff bytes m n (subℕ o 8) in
+      (λ p. i .0 (sym e ∙ ap verdictOf p), λ h. one-reading r (Accepted m n o) (e ∙ i .1 h))
+
+  -- ---- demand 3: of an accepted file
+  module _ (m n o : ℕ) (p : r ≡ Accepted m n o) where
+    abbrev pub file : AcceptedFile bytes m n (subℕ o 8)
+    file = accepted-exactly m n o .0 p
+
+    -- each bank is refreshed at least L / I - 17 times in any stretch of L cycles up to E
+    pub bank-refreshed : (b c L : ℕ) → b < 8 → c + L ≤ endOf (file .z) + 1 → L / interval (cardIn file) - 17 ≤ countIn c (c + L) (refreshStamps b (pastIn file))
+    bank-refreshed = refreshed-file file
+
+    module _ (first b g : ℕ) (hb : b < 8) (hg : g < cardIn file .groups) where
+      abbrev pub GroupAt : ℕ → Type 0
+      GroupAt s = Took (cardIn file .groups) first g (refreshStamps b (pastIn file)) s
+
+      abbrev pub span : ℕ
+      span = (cardIn file .groups + 17) * interval (cardIn file)
+
+      -- each row group of each bank is refreshed in every stretch of (R + 17) I cycles, and no more cycles pass from one time to the next
+      pub group-refreshed : (c : ℕ) → c + span ≤ endOf (file .z) + 1 → (s : ℕ) × (c ≤ s) × (s < c + span) × GroupAt s
+      group-refreshed = every-group-file file first b g hb hg
+
+      pub group-in-time : (s t : ℕ) → GroupAt s → GroupAt t → s < t → ((u : ℕ) → GroupAt u → (u ≤ s) ⊎ (t ≤ u)) → t ≤ s + span
+      group-in-time = in-a-row-file file first b g hb hg

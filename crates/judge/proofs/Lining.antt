@@ -1,0 +1,58 @@
+-- The line of a field that was taken.
+use Prim.Native.Nat.{ℕ, _≤_}
+use mathlib.Core.Path.{_≡_, refl}
+use mathlib.Core.Bool.{Bool, true, false, _||_}
+use mathlib.Core.List.{List, []}
+use native.Mathlib.Omega.{arith}
+use lib.Dec.{leb}
+use lib.ListN.{length, getD, take, drop}
+use borrow.Author.Tests.{eq-eqb, ne-eqb, leb-true}
+use Rattle.rules.specs.Commands.{Command}
+use Rattle.rules.specs.Pins.{decode}
+use Rattle.rules.specs.Entries as entries
+use Rattle.rules.specs.Form as form
+use Rattle.rules.specs.Lent as lent
+use Rattle.rules.specs.Lines.{entryLine}
+use Rattle.lines.specs.Written.{Written}
+use Rattle.judge.specs.declared.State.{State}
+use Rattle.judge.specs.Heard.{fieldLine}
+use Rattle.judge.specs.Parts.{fieldIn, lineIn, Lined}
+use Rattle.judge.proofs.Taking.{entry-in}
+
+no-line : (line old : List ℕ) → line ≡ [] → Lined line old old 0
+no-line line old e = rw e (record { count = refl; fits = omega arith; memory = refl })
+
+pub lined-quiet : (q : Bool) (st : State) (bs old : List ℕ) → q ≡ true → Lined (lineIn q st bs) old old 0
+unfolding lineIn
+lined-quiet q st bs old e = no-line _ old (rw e)
+
+other-line : (q : Bool) (st : State) (bs : List ℕ) → (getD bs 0 0 ≡ 32 → ⊥) → lineIn q st bs ≡ []
+unfolding lineIn fieldLine fieldIn
+other-line true st bs n = refl
+other-line false st bs n = rw (ne-eqb _ _ n)
+
+pub lined-other : (q : Bool) (st : State) (bs old : List ℕ) → (getD bs 0 0 ≡ 32 → ⊥) → Lined (lineIn q st bs) old old 0
+lined-other q st bs old n = no-line (lineIn q st bs) old (other-line q st bs n)
+
+tag-in : (bs : List ℕ) → getD bs 0 0 ≡ 32 → fieldIn bs .tag ≡ 32
+unfolding fieldIn
+tag-in bs f = f
+
+entry-line : (q : Bool) (st : State) (bs : List ℕ) (t p : ℕ) (c : Command) → q ≡ false → getD bs 0 0 ≡ 32 → length bs ≡ 10
+    → t ≡ form.number (take 4 (drop 3 bs)) → p ≡ form.number (take 3 (drop 7 bs)) → c ≡ entries.commandOf (decode p)
+    → entryLine (record { stamp = t; cmd = c }) (st .rec .counter) ≡ lineIn q st bs
+unfolding lineIn fieldLine lent.commandIn entries.read
+entry-line q st bs t p c e f n te pe ce =
+    rw (e, eq-eqb _ _ (tag-in bs f), entry-in bs n, ← te, ← pe, ← ce)
+
+pub lined-entry : (q : Bool) (st : State) (bs old new : List ℕ) (r t p : ℕ) (c : Command) → q ≡ false → (q || leb 64 (length old)) ≡ true
+    → getD bs 0 0 ≡ 32 → length bs ≡ 10
+    → t ≡ form.number (take 4 (drop 3 bs)) → p ≡ form.number (take 3 (drop 7 bs)) → c ≡ entries.commandOf (decode p)
+    → Written (entryLine (record { stamp = t; cmd = c }) (st .rec .counter)) old new r → Lined (lineIn q st bs) old new r
+lined-entry q st bs old new r t p c e room f n te pe ce w =
+    let l : leb 64 (length old) ≡ true = rw e at room in
+    let h : 64 ≤ length old = leb-true 64 (length old) l in
+    let a = w .answer in
+    let m = w .memory in
+    let s = w .short in
+    rw (← entry-line q st bs t p c e f n te pe ce) (record { count = rw l at a; fits = omega arith; memory = rw l at m })

@@ -1,0 +1,89 @@
+-- A call comes to something: with room for a line it takes a field or says why not, and what it leaves waiting is less than one field.
+use Prim.Native.Nat.{ℕ, _+_, _*_, _≤_, _<_}
+use mathlib.Core.Path.{_≡_, refl, sym, _∙_}
+use mathlib.Core.Bool.{Bool, true, false, cond}
+use mathlib.Core.Logic.{⊎-elim}
+use mathlib.Core.List.{List, [], _∷_}
+use native.Mathlib.Omega.{arith}
+use lib.Dec.{leb}
+use lib.ListN.{length, drop, length-drop}
+use borrow.Author.Tests.{leb-true, leb-false}
+use Rattle.rules.specs.Lists.{all}
+use Rattle.rules.specs.Form.{Field, sizeOf, Head, _of_, lengths, lengthGood, headOf}
+use Rattle.rules.specs.FileReading.{Cut, noTag, noLength, halfLength, shortValue}
+use Rattle.rules.proofs.FileHeads.{HeadSays, is-whole, is-cut, is-bad-tag, is-bad-length, head-says}
+use Rattle.card.proofs.Lengths.{listed-has}
+use Rattle.judge.specs.declared.State.{State}
+use Rattle.judge.specs.declared.Verdict.{Verdict}
+use Rattle.judge.specs.declared.What.the-variants.{More, Full}
+use Rattle.judge.specs.declared.fields.Move.the-variants.{On, Wait, End}
+use Rattle.judge.specs.Took.{refusedBy, fieldTook, headTook, behindTook, asRead, tookOf}
+use Rattle.judge.specs.Heard.{Heard, behind, heardOf}
+use Rattle.judge.proofs.Prefix.{on-wait, end-wait, field-moves, taken-size}
+use Rattle.judge.proofs.Turns.{hasRoom}
+use Rattle.judge.proofs.Walks.{Walk, stops-full, stops-more, stops-over, takes, walk}
+use Rattle.judge.proofs.Chunks.{left-over}
+
+-- ---- a field has at most 10 bytes
+short-value : (t l : ℕ) → lengthGood t l ≡ true → l ≤ 7
+unfolding lengthGood lengths _of_ all
+short-value t l e = leb-true l 7 (listed-has (λ k s. leb s 7) lengths t l refl e)
+
+cut-short : (fs : List Field) {bs : List ℕ} → Cut fs bs → length bs < 10
+cut-short fs noTag = omega arith
+cut-short fs (noLength m) = omega arith
+cut-short fs (halfLength m) = omega arith
+cut-short fs (shortValue {t} {h} {l} m g s) = omega (arith, short-value t (256 * h + l) g)
+
+head-short : (st : State) (fs : List Field) {bs : List ℕ} {h : Head} → HeadSays fs bs h → headTook st h .how ≡ Wait → length bs < 10
+unfolding headTook refusedBy
+head-short st fs (is-whole f rest r) e =
+    ⊎-elim (λ (q : fieldTook st f .how ≡ On (sizeOf f)). absurd (on-wait (sym q ∙ e)))
+    (λ (q : (v : Verdict) × (fieldTook st f .how ≡ End v)). absurd (end-wait (sym (q .1) ∙ e)))
+    (field-moves st f)
+head-short st fs (is-cut c) e = cut-short fs c
+head-short st fs (is-bad-tag m) e = absurd (end-wait e)
+head-short st fs (is-bad-length m g) e = absurd (end-wait e)
+
+behind-short : (st : State) (bs : List ℕ) → behindTook st bs .how ≡ Wait → length bs < 10
+unfolding behindTook refusedBy
+behind-short st [] e = omega arith
+behind-short st (b ∷ bs) e = absurd (end-wait e)
+
+wait-short : (st : State) (bs : List ℕ) → tookOf st bs .how ≡ Wait → length bs < 10
+unfolding tookOf
+wait-short st bs e = go (leb 19 (st .read)) e
+  where
+    go : (b : Bool) → cond b (behindTook st bs) (headTook st (headOf (asRead (st .read)) bs)) .how ≡ Wait → length bs < 10
+    go true e = behind-short st bs e
+    go false e = head-short st (asRead (st .read)) (head-says (asRead (st .read)) bs) e
+
+-- so a buffer of 10 bytes is enough for what is left over
+pub left-short : (q : Bool) (room : ℕ) (st : State) (bs : List ℕ) → heardOf q room st bs .what ≡ More → length (drop (heardOf q room st bs .used) bs) < 10
+left-short q room st bs e = wait-short _ _ (rw e at (left-over (walk q room st bs)))
+
+-- ---- fields are taken
+no-room : (q : Bool) (room : ℕ) → hasRoom q room ≡ false → room < 64
+no-room true room e = let z : _≡_ {A = ℕ} 0 1 = cc in omega arith
+no-room false room e = leb-false 64 room e
+
+full-used : {q : Bool} {room : ℕ} {st : State} {bs : List ℕ} {h : Heard} → Walk q room st bs h → 64 ≤ room → h .what ≡ Full → 3 ≤ h .used
+unfolding behind
+full-used {q} {room} (stops-full r) l e = let s : room < 64 = no-room q room r in absurd (omega arith)
+full-used (stops-more r g) l e = let z : _≡_ {A = ℕ} 0 1 = cc in absurd (omega arith)
+full-used (stops-over r g) l e = let z : _≡_ {A = ℕ} 0 1 = cc in absurd (omega arith)
+full-used (takes {st = st} {bs = bs} {n = n} r g w) l e = omega (arith, taken-size st bs n g)
+
+-- a call that asks for more room has taken a field
+pub full-progress : (q : Bool) (room : ℕ) (st : State) (bs : List ℕ) → 64 ≤ room → heardOf q room st bs .what ≡ Full → 3 ≤ heardOf q room st bs .used
+full-progress q room st bs l e = full-used (walk q room st bs) l e
+
+used-there : {q : Bool} {room : ℕ} {st : State} {bs : List ℕ} {h : Heard} → Walk q room st bs h → h .used ≤ length bs
+unfolding behind
+used-there (stops-full r) = omega arith
+used-there (stops-more r e) = omega arith
+used-there (stops-over r e) = omega arith
+used-there (takes {st = st} {bs = bs} {n = n} r e w) = omega (arith, taken-size st bs n e, length-drop n bs, used-there w)
+
+pub used-fits : (q : Bool) (room : ℕ) (st : State) (bs : List ℕ) → heardOf q room st bs .used ≤ length bs
+used-fits q room st bs = used-there (walk q room st bs)

@@ -1,0 +1,95 @@
+-- The end field: refused as the list refuses it, or taken, and then the state remembers the verdict, which stands unless a byte more comes.
+use Prim.Native.Nat.{ℕ, _+_, _≤_, _<_}
+use mathlib.Core.Path.{_≡_, refl, ap, sym, _∙_}
+use mathlib.Core.Bool.{true, false}
+use mathlib.Core.Logic.{⊎-elim}
+use mathlib.Core.List.{List, [], _∷_}
+use mathlib.Core.Option.{none, some}
+use native.Mathlib.Omega.{arith}
+use lib.Dec.{leb}
+use lib.IntN.{subℕ}
+use borrow.Author.Tests.{eq-eqb, ne-eqb, lt-leb}
+use Rattle.rules.specs.Card as rules
+use Rattle.rules.specs.Units.{interval}
+use Rattle.rules.specs.Past.{Past, countedStamps}
+use Rattle.rules.specs.Folds.{orElse, firstOf}
+use Rattle.rules.specs.Account.{lpddr3, ledgerAfter}
+use Rattle.rules.specs.Checks.{Refusal, refusal, unless, notBelow, endChecks, endRefusal}
+use Rattle.rules.specs.Form.{Field, sizeOf, cardWhole, cardOf, endOf}
+use Rattle.rules.specs.File.{FileVerdict, acceptedAt}
+use Rattle.rules.specs.FileReading.{RightForm}
+use Rattle.rules.specs.Lent.{Lent, closeRefusal, moved, lastCycle, standingLedger, standing}
+use Rattle.rules.proofs.Tests.{le-cases, some-none}
+use Rattle.rules.proofs.StepByList.{standsAt, close-by-list, close-below, owing-by-list}
+use Rattle.card.specs.Values as code
+use Rattle.ledger.specs.Values.{ledgerOf, stored, codeOf}
+use Rattle.bank.specs.Values.{lentOf}
+use Rattle.judge.specs.declared.State.{State}
+use Rattle.judge.specs.declared.fields.Move.the-variants.{On}
+use Rattle.judge.specs.Values.{verdictOf}
+use Rattle.judge.specs.Took.{tookAs, refusedHere, recordClosed, endAfter, endTook, fieldTook}
+use Rattle.judge.specs.Heard.{endedAt}
+use Rattle.judge.proofs.Overflow.{size-small}
+use Rattle.judge.proofs.Stands.{Stands, offset-behind}
+use Rattle.judge.proofs.StandsEntry.{stored-back, in-range, paid}
+
+-- behind a good end field
+pub record Ended (st : State) (v : FileVerdict) (at : ℕ) : Type 0 where
+  pub read : st .read ≡ 19
+  pub says : verdictOf (endedAt st) ≡ v
+  pub offset : st .offset ≡ at
+
+early : (card : rules.Card) (past : Past) (end : ℕ) → end < standsAt card past 0 → endRefusal card past end ≡ some (refusal 5 0 0)
+unfolding standingLedger lastCycle endRefusal endChecks notBelow firstOf orElse unless
+early card [] end h = absurd (omega arith)
+early card (x ∷ p) end h = rw (lt-leb (x .stamp) end (omega arith))
+
+module _ {st : State} {fs : List Field} {past : Past} {at : ℕ} (s : Stands st fs past at) (w : cardWhole fs ≡ true) where
+  closed-by : (end : ℕ) → closeRefusal (lentOf (st .rec)) end ≡ endRefusal (cardOf fs) past end
+  closed-by end = rw (s .lent) (⊎-elim
+      (λ (p : (standsAt (cardOf fs) past 0 ≤ end) × (leb (standsAt (cardOf fs) past 0) end ≡ true)).
+      close-by-list (cardOf fs) past 0 (in-range s w) (s .taken) (paid s w) end (p .0))
+      (λ (p : (end < standsAt (cardOf fs) past 0) × (leb (standsAt (cardOf fs) past 0) end ≡ false)).
+      close-below (cardOf fs) past 0 (in-range s w) (s .taken) (paid s w) end (p .0) ∙ sym (early (cardOf fs) past end (p .0)))
+      (le-cases (standsAt (cardOf fs) past 0) end))
+
+  not-early : (end : ℕ) → endRefusal (cardOf fs) past end ≡ none → standsAt (cardOf fs) past 0 ≤ end
+  not-early end n = ⊎-elim
+      (λ (p : (standsAt (cardOf fs) past 0 ≤ end) × (leb (standsAt (cardOf fs) past 0) end ≡ true)). p .0)
+      (λ (p : (end < standsAt (cardOf fs) past 0) × (leb (standsAt (cardOf fs) past 0) end ≡ false)).
+      absurd (some-none (sym n ∙ early (cardOf fs) past end (p .0))))
+      (le-cases (standsAt (cardOf fs) past 0) end)
+
+  ledger-is : ledgerOf (st .rec .ledger) ≡ standing (cardOf fs) past 0 .ledger
+  unfolding lentOf
+  ledger-is = ap (λ (l : Lent). l .ledger) (s .lent)
+
+  -- the ledger at E, as it is stored
+  owed-is : (end : ℕ) → endRefusal (cardOf fs) past end ≡ none →
+      subℕ (codeOf (moved (code.cardOf (st .rec .card)) (ledgerOf (st .rec .ledger)) end) .owed) 8
+      ≡ ledgerAfter (lpddr3 .credit) (interval (cardOf fs)) (countedStamps past) end
+  unfolding codeOf
+  owed-is end n =
+      let there = owing-by-list (cardOf fs) past 0 (in-range s w) (s .taken) (paid s w) end (not-early end n) in
+      rw (s .holds .reads, ledger-is, there) (unfold lpddr3 in stored-back (interval (cardOf fs)) (countedStamps past) end)
+
+  module _ (f : Field) (form : RightForm fs f) (t : f .tag ≡ 33) where
+    pub of-end : fieldTook st f ≡ endTook st f
+    unfolding fieldTook
+    of-end = rw (ne-eqb (f .tag) 32 (λ e. omega arith), eq-eqb (f .tag) 33 t)
+
+    pub end-refused : (x : Refusal) → endRefusal (cardOf fs) past (endOf f) ≡ some x → fieldTook st f ≡ refusedHere st x
+    unfolding endTook
+    end-refused x n = of-end ∙ rw (closed-by (endOf f) ∙ n, endTook)
+
+    pub end-taken : endRefusal (cardOf fs) past (endOf f) ≡ none → fieldTook st f ≡ tookAs (On (sizeOf f)) (endAfter st f)
+    unfolding endTook
+    end-taken n = of-end ∙ rw (closed-by (endOf f) ∙ n, endTook)
+
+    pub end-stands : endRefusal (cardOf fs) past (endOf f) ≡ none → Ended (endAfter st f) (acceptedAt fs past (endOf f)) (at + sizeOf f)
+    unfolding endAfter
+    end-stands n = record {
+      read = refl;
+      says = unfold verdictOf endedAt recordClosed acceptedAt in rw (s .commands, s .refreshes, owed-is (endOf f) n);
+      offset = offset-behind s f (size-small fs f form (omega arith));
+    }

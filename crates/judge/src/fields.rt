@@ -1,0 +1,193 @@
+// One field at a time.
+ghost use mathlib.Core.Path.{_≡_};
+ghost use mathlib.Core.Bool.{true};
+ghost use Prim.Native.Nat.{_+_, _-_, _≤_};
+ghost use lib.ListN.{length, getD};
+ghost use Rattle.rules.specs.Units.{delaysOf};
+ghost use Rattle.rules.specs.Form as form;
+ghost use Rattle.card.specs.Values.{cardOf, clocksOf, shortened};
+ghost use Rattle.pins.specs.Values.{commandOf};
+ghost use Rattle.judge.specs.Took as took;
+ghost use Rattle.judge.specs.Parts.{fieldIn, entryOn, endOn};
+use crate::State;
+use crate::Verdict;
+use crate::counts;
+use crate::heads;
+use crate::heads::Head;
+use crate::numbers;
+use crate::told;
+use crate::told::Told;
+use bank::Record;
+use card::Delays;
+use ledger::Ledger;
+use pins::Command;
+
+// What the bytes at a place are: a whole field of so many bytes, one whose rest is not there yet, or the end of the judging.
+pub enum Move {
+    On(usize),
+    Wait,
+    End(Verdict),
+}
+
+pub struct Took {
+    pub how: Move,
+    pub state: State,
+}
+
+// So many bytes further on. The sum goes round at 2^64.
+fn further(offset: u64, size: usize) -> u64
+    ensures { λ r. ⌜ r ≡ took.wrapped (offset + size) ⌝ }
+{
+    std::num::wrapping_add_u64(offset, size as u64)
+}
+
+fn refused(state: State, number: u8, rule: u8, cycle: u64) -> Took
+    ensures { λ r. ⌜ r ≡ took.tookAs (Move.End (Verdict.Refused number rule (state .offset) cycle)) state ⌝ }
+{
+    Took {
+        how: Move::End(Verdict::Refused {
+            number: number,
+            rule: rule,
+            offset: state.offset,
+            cycle: cycle,
+        }),
+        state: state,
+    }
+}
+
+fn take_card(state: State, bytes: &[u8]) -> Took
+    requires { ⌜ (state .read ≤ 18) × (3 ≤ length (now bytes)) ⌝ }
+    ensures { λ r. ⌜ r ≡ took.cardTook state (fieldIn (now (bytes .entry))) ⌝ }
+{
+    let rec = state.rec;
+    let tag = bytes[0];
+    let size = bytes.len();
+    let value = card::read_value(rec.card, tag, &bytes[3..]);
+    let refusal = value.refusal;
+    if refusal != 0 {
+        return refused(state, refusal, 0, 0);
+    }
+    Took {
+        how: Move::On(size),
+        state: State {
+            read: state.read + 1,
+            rec: bank::fresh_record(value.card),
+            commands: state.commands,
+            refreshes: state.refreshes,
+            offset: further(state.offset, size),
+        },
+    }
+}
+
+// The state behind an entry that was taken: the record then is `rec`.
+fn entry_on(state: State, rec: Record, command: Command) -> State
+    ensures { λ r. ⌜ r ≡ entryOn state rec (commandOf command) ⌝ }
+{
+    State {
+        read: state.read,
+        rec: rec,
+        commands: std::num::wrapping_add_u64(state.commands, counts::commands_by(command)),
+        refreshes: std::num::wrapping_add_u64(
+            state.refreshes,
+            counts::refreshes_by(command, state.rec.counter),
+        ),
+        offset: further(state.offset, 10),
+    }
+}
+
+fn take_entry(state: State, delays: Delays, bytes: &[u8]) -> Took
+    requires { ⌜ (length (now bytes) ≡ 10) × (clocksOf delays ≡ shortened (delaysOf (cardOf (state .rec .card)))) ⌝ }
+    ensures { λ r. ⌜ r ≡ took.entryTook state (fieldIn (now (bytes .entry))) ⌝ }
+{
+    let pins = numbers::three(bytes, 7);
+    let stepped = step::offered(state.rec, delays, numbers::four(bytes, 3), pins);
+    let answer = stepped.answer;
+    let rec = stepped.rec;
+    match told::of_step(answer) {
+        Told::Bad(number, rule, cycle) => refused(state, number, rule, cycle),
+        Told::Good => Took {
+            how: Move::On(10),
+            state: entry_on(state, rec, counts::command_on(pins)),
+        },
+    }
+}
+
+// The state behind the end: the record's ledger then stands at E.
+fn end_on(state: State, ledger: Ledger) -> State
+    ensures { λ r. ⌜ r ≡ endOn state ledger ⌝ }
+{
+    let mut rec = state.rec;
+    rec.ledger = ledger;
+    State {
+        read: 19,
+        rec: rec,
+        commands: state.commands,
+        refreshes: state.refreshes,
+        offset: further(state.offset, 7),
+    }
+}
+
+fn take_end(state: State, bytes: &[u8]) -> Took
+    requires { ⌜ length (now bytes) ≡ 7 ⌝ }
+    ensures { λ r. ⌜ r ≡ took.endTook state (fieldIn (now (bytes .entry))) ⌝ }
+{
+    let after = bank::close(state.rec, numbers::four(bytes, 3));
+    let answer = after.answer;
+    let ledger = after.ledger;
+    match told::of_ledger(answer) {
+        Told::Bad(number, rule, cycle) => refused(state, number, rule, cycle),
+        Told::Good => Took {
+            how: Move::On(7),
+            state: end_on(state, ledger),
+        },
+    }
+}
+
+// A field that is whole.
+fn take_whole(state: State, delays: Delays, bytes: &[u8]) -> Took
+    requires { ⌜ (state .read ≤ 18) × (3 ≤ length (now bytes)) ⌝ }
+    requires { ⌜ form.lengthGood (getD (now bytes) 0 0) (length (now bytes) - 3) ≡ true ⌝ }
+    requires { ⌜ clocksOf delays ≡ shortened (delaysOf (cardOf (state .rec .card))) ⌝ }
+    ensures { λ r. ⌜ r ≡ took.fieldTook state (fieldIn (now (bytes .entry))) ⌝ }
+{
+    let tag = bytes[0];
+    if tag == 32 {
+        return take_entry(state, delays, bytes);
+    }
+    if tag == 33 {
+        return take_end(state, bytes);
+    }
+    take_card(state, bytes)
+}
+
+// Behind the end field.
+fn take_behind(state: State, bytes: &[u8]) -> Took
+    ensures { λ r. ⌜ r ≡ took.behindTook state (now (bytes .entry)) ⌝ }
+{
+    if bytes.len() == 0 {
+        return Took {
+            how: Move::Wait,
+            state: state,
+        };
+    }
+    refused(state, 12, 0, 0)
+}
+
+pub fn take_field(state: State, delays: Delays, bytes: &[u8]) -> Took
+    requires { ⌜ clocksOf delays ≡ shortened (delaysOf (cardOf (state .rec .card))) ⌝ }
+    ensures { λ r. ⌜ r ≡ took.tookOf state (now (bytes .entry)) ⌝ }
+{
+    let read = state.read;
+    if 18 < read {
+        return take_behind(state, bytes);
+    }
+    match heads::head_of(read, bytes) {
+        Head::Whole(n) => take_whole(state, delays, &bytes[..n]),
+        Head::Cut => Took {
+            how: Move::Wait,
+            state: state,
+        },
+        Head::BadTag => refused(state, 2, 0, 0),
+        Head::BadLength => refused(state, 3, 0, 0),
+    }
+}
