@@ -1,0 +1,35 @@
+use mathlib.Core.Path.{sym}
+use lib.ListN.{length}
+use lib.Seq.{length-take-le}
+use Rattle.trace.proofs.Calling.{used-there, called}
+use borrow.Author.Needs.{needs}
+use Rattle.trace.proofs.call.Statement.{statement}
+use Rattle.trace.proofs.call.Tie as tie
+
+slice-aggregate-feed : tie.Need-slice-aggregate-feed
+slice-aggregate-feed c = sym (length-take-le _ _ (c .before .before .before .pre))
+
+shift-requires : tie.Need-shift-requires
+shift-requires c κs =
+    let f = c .before .before .before .before in
+    let s = f .before .before .before .before .before in
+    (used-there (s .args .quiet) (length (s .args .out .now)) (s .args .state) _ _ (s .pre) (f .feed .ensures), s .pre)
+
+returns : tie.Need-returns
+returns c =
+    let m = c .before .before in
+    let f = m .before .before .before .before .before in
+    let s = f .before .before .before .before .before in
+    called _ (s .args .have) (s .args .buf .now) (s .pre) (f .feed .ensures) (m .shift .ensures .0) (m .shift .ensures .1)
+
+pub call-spec : {M : Type 1} → statement M
+call-spec =
+    tie.close
+    (tie.spec
+    (λ c. search needs)
+    slice-aggregate-feed
+    (λ c κs. search needs)
+    shift-requires
+    (λ c. search needs)
+    (λ c. search needs)
+    returns)

@@ -1,0 +1,2 @@
+-- What a call of the judge leaves.
+pub mod Calls
