@@ -1,0 +1,329 @@
+/* Judges LPDDR3 traces.
+     judge [-q]     one trace on standard input; each accepted entry, then the verdict (-q: verdict only)
+     judge --many   a stream of traces, each behind its length (4 bytes, big-endian); one verdict a trace */
+#include "rules.h"
+
+#include <errno.h>
+#include <inttypes.h>
+#include <stdio.h>
+#include <stdlib.h>
+#include <unistd.h>
+
+#define ROOM 65536
+#define ENTRY 10
+
+static void fatal(const char *what)
+{
+    fprintf(stderr, "judge: %s\n", what);
+    exit(2);
+}
+
+/* Bytes at to end of buf are at hand; left of the file's bytes are not yet taken. */
+static struct {
+    uint8_t buf[ROOM];
+    size_t at, end;
+    uint64_t offset, left;
+} in;
+
+static struct {
+    char buf[ROOM];
+    size_t n;
+} out;
+
+/* How many bytes of the file are at hand: want or more, unless the file ends before. */
+static size_t have(size_t want)
+{
+    if (in.end - in.at < want && in.end - in.at < in.left) {
+        memmove(in.buf, in.buf + in.at, in.end - in.at);
+        in.end -= in.at;
+        in.at = 0;
+        while (in.end < want) {
+            ssize_t n = read(0, in.buf + in.end, ROOM - in.end);
+            if (n < 0 && errno == EINTR)
+                continue;
+            if (n < 0)
+                fatal("cannot read");
+            if (n == 0)
+                break;
+            in.end += (size_t)n;
+        }
+    }
+    size_t n = in.end - in.at;
+    return n < in.left ? n : (size_t)in.left;
+}
+
+static void take(size_t n)
+{
+    in.at += n;
+    in.offset += n;
+    in.left -= n;
+}
+
+static void flush(void)
+{
+    for (size_t done = 0; done < out.n;) {
+        ssize_t n = write(1, out.buf + done, out.n - done);
+        if (n < 0 && errno == EINTR)
+            continue;
+        if (n < 0)
+            fatal("cannot write");
+        done += (size_t)n;
+    }
+    out.n = 0;
+}
+
+static uint32_t big(const uint8_t *p, unsigned n)
+{
+    uint32_t v = 0;
+    while (n--)
+        v = v << 8 | *p++;
+    return v;
+}
+
+static uint64_t big8(const uint8_t *p)
+{
+    return (uint64_t)p[0] << 56 | (uint64_t)p[1] << 48 | (uint64_t)p[2] << 40 | (uint64_t)p[3] << 32 |
+           (uint64_t)p[4] << 24 | (uint64_t)p[5] << 16 | (uint64_t)p[6] << 8 | (uint64_t)p[7];
+}
+
+/* Kinds by the seven pins that decide them: CA0r to CA4r, CA0f, CS_n. */
+static uint8_t kinds[128];
+
+/* What follows the cycle on an entry's line; the ninth column has no bank. */
+static struct tail {
+    char text[15];
+    uint8_t length;
+} tails[RESERVED][9];
+
+static char pairs[200];
+
+static void tables(void)
+{
+    static const char *const names[] = {"NOP", "MRW", "MRR", "REFPB", "REFAB", "ACT",
+                                        "RD",  "RDA", "WR",  "WRA",   "PRE",   "PREA"};
+    for (uint32_t i = 0; i < 128; i++)
+        kinds[i] = (uint8_t)decode((i & 31) | (i >> 5 & 1) << 10 | (i >> 6) << 20);
+    for (int k = 0; k < RESERVED; k++)
+        for (int b = 0; b < 9; b++)
+            tails[k][b].length = (uint8_t)snprintf(tails[k][b].text, sizeof tails[k][b].text, " %s %c\n",
+                                                   names[k], b < 8 ? '0' + b : '-');
+    for (int i = 0; i < 100; i++) {
+        pairs[2 * i] = (char)('0' + i / 10);
+        pairs[2 * i + 1] = (char)('0' + i % 10);
+    }
+}
+
+static char *decimal(char *p, uint32_t v)
+{
+    char digits[10];
+    unsigned n = 0;
+    do
+        digits[n++] = (char)('0' + v % 10);
+    while (v /= 10);
+    while (n)
+        *p++ = digits[--n];
+    return p;
+}
+
+/* Stamps rise slowly: the digits before the last four are those of the entry before, most often. */
+static inline char *stamp_digits(char *p, uint32_t v)
+{
+    static uint32_t high;
+    static char text[8];
+    static size_t length;
+    if (v < 10000)
+        return decimal(p, v);
+    uint32_t low = v % 10000;
+    if (v / 10000 != high) {
+        high = v / 10000;
+        length = (size_t)(decimal(text, high) - text);
+    }
+    memcpy(p, text, sizeof text);
+    memcpy(p + length, pairs + 2 * (low / 100), 2);
+    memcpy(p + length + 2, pairs + 2 * (low % 100), 2);
+    return p + length + 4;
+}
+
+static inline void line(uint32_t stamp, enum kind k, unsigned bank)
+{
+    if (ROOM - out.n < 32)
+        flush();
+    bool named = k == REFPB || k == PRE || (k >= ACT && k <= WRA);
+    const struct tail *t = &tails[k][named ? bank : 8];
+    char *p = stamp_digits(out.buf + out.n, stamp);
+    memcpy(p, t->text, sizeof t->text);
+    out.n = (size_t)(p - out.buf) + t->length;
+}
+
+static void refused(unsigned number, unsigned rule, uint64_t cycle)
+{
+    if (ROOM - out.n < 128)
+        flush();
+    out.n += (size_t)snprintf(out.buf + out.n, 128, "refused %u %u %" PRIu64 " %" PRIu64 "\n", number, rule,
+                              in.offset, cycle);
+}
+
+static void accepted(const struct record *r, uint64_t last)
+{
+    if (ROOM - out.n < 128)
+        flush();
+    out.n += (size_t)snprintf(out.buf + out.n, 128, "accepted %" PRIu64 " %" PRIu64 " %" PRId64 "\n",
+                              r->commands, r->refreshes, ledger_at(r, last));
+}
+
+/* The number a field's head is refused with, or 0 where the whole field is at hand. */
+static unsigned head(bool tag_fits, unsigned length)
+{
+    size_t n = have(3 + length);
+    const uint8_t *p = in.buf + in.at;
+    if (n == 0)
+        return 1;
+    if (!tag_fits)
+        return 2;
+    if (n < 3)
+        return 1;
+    if (big(p + 1, 2) != length)
+        return 3;
+    return n < 3 + length ? 1 : 0;
+}
+
+/* False: a value out of range. */
+static bool read_value(struct card *c, unsigned tag, const uint8_t *p)
+{
+    switch (tag) {
+    case 1:
+        c->period = big(p, 4);
+        return c->period >= 938 && c->period <= 100000;
+    case 2:
+        c->mr2 = *p;
+        return latency_of(c->mr2, c->period);
+    case 3:
+        c->r = big(p, 2);
+        return c->r >= 1 && c->r <= 16384;
+    case 4:
+        c->refi = big(p, 4);
+        return c->refi >= c->period && c->refi <= 20000000;
+    default:
+        c->ps[tag - 5] = big(p, 4);
+        c->floor[tag - 5] = p[4];
+        return c->ps[tag - 5] <= 1000000;
+    }
+}
+
+static bool read_card(struct card *c)
+{
+    static const uint8_t lengths[] = {4, 1, 2, 4};
+    for (unsigned tag = 1; tag <= 18; tag++) {
+        unsigned length = tag <= 4 ? lengths[tag - 1] : 5;
+        bool fits = have(1) && in.buf[in.at] == tag;
+        unsigned number = head(fits, length);
+        if (!number && !read_value(c, tag, in.buf + in.at + 3))
+            number = 4;
+        if (number) {
+            refused(number, 0, 0);
+            return false;
+        }
+        take(3 + length);
+    }
+    return true;
+}
+
+/* Takes entries while whole ones are at hand. False: one was refused, and the verdict is out. */
+static bool entries(struct record *r, bool lines)
+{
+    const uint8_t *p = in.buf + in.at, *start = p, *end = p + have(ENTRY);
+    bool good = true;
+    struct refusal no = {0, 0, 0};
+    for (; end - p >= ENTRY; p += ENTRY) {
+        uint64_t v = big8(p + 2);
+        if (p[0] != 32 || p[1] != 0 || v >> 56 != 7)
+            break;
+        uint32_t stamp = (uint32_t)(v >> 24), pins = v & 0xFFFFFF;
+        enum kind k = kinds[(pins & 31) | (pins >> 10 & 1) << 5 | (pins >> 20 & 1) << 6];
+        unsigned bank = k == REFPB ? r->counter : bank_bits(pins);
+        good = step(r, k, bank, stamp, pins, &no);
+        if (!good)
+            break;
+        if (lines)
+            line(stamp, k, bank);
+    }
+    take((size_t)(p - start));
+    if (!good)
+        refused(no.number, no.rule, no.cycle);
+    return good;
+}
+
+static void judge(bool lines)
+{
+    struct card card;
+    if (!read_card(&card))
+        return;
+    static struct record r;
+    begin(&r, &card);
+    while (entries(&r, lines)) {
+        size_t n = have(ENTRY);
+        const uint8_t *p = in.buf + in.at;
+        if (n >= ENTRY && p[0] == 32 && big(p + 1, 2) == 7)
+            continue;
+        bool entry = n && p[0] == 32;
+        unsigned number = head(n && (entry || p[0] == 33), entry ? 7 : 4);
+        if (number) {
+            refused(number, 0, 0);
+            return;
+        }
+        uint32_t last = big(in.buf + in.at + 3, 4);
+        struct refusal no;
+        if (!finish(&r, last, &no)) {
+            refused(no.number, no.rule, no.cycle);
+            return;
+        }
+        take(7);
+        if (have(1))
+            refused(12, 0, 0);
+        else
+            accepted(&r, last);
+        return;
+    }
+}
+
+static void judge_many(void)
+{
+    for (;;) {
+        in.left = UINT64_MAX;
+        size_t n = have(4);
+        if (n == 0)
+            return;
+        if (n < 4)
+            fatal("the stream ends inside a length");
+        uint32_t length = big(in.buf + in.at, 4);
+        take(4);
+        in.left = length;
+        in.offset = 0;
+        judge(false);
+        while (in.left) {
+            n = have(1);
+            if (n == 0)
+                fatal("the stream ends inside a trace");
+            take(n);
+        }
+    }
+}
+
+int main(int argc, char **argv)
+{
+    bool quiet = argc == 2 && !strcmp(argv[1], "-q");
+    bool many = argc == 2 && !strcmp(argv[1], "--many");
+    if (argc > 2 || (argc == 2 && !quiet && !many)) {
+        fprintf(stderr, "usage: judge [-q | --many]\n");
+        return 2;
+    }
+    tables();
+    if (many)
+        judge_many();
+    else {
+        in.left = UINT64_MAX;
+        judge(!quiet);
+    }
+    flush();
+    return 0;
+}

@@ -1,0 +1,439 @@
+/* The rules of the trace judge, as one incremental record. */
+#ifndef RULES_H
+#define RULES_H
+
+#include <stdbool.h>
+#include <stdint.h>
+#include <string.h>
+
+#define INLINE static inline __attribute__((always_inline))
+
+enum kind { NOP, MRW, MRR, REFPB, REFAB, ACT, RD, RDA, WR, WRA, PRE, PREA, RESERVED };
+
+enum timing {
+    tRCD,
+    tRPpb,
+    tRPab,
+    tRAS,
+    tRRD,
+    tFAW,
+    tRTP,
+    tWR,
+    tWTR,
+    tDQSCK,
+    tRFCab,
+    tRFCpb,
+    tMRR,
+    tMRW,
+    TIMINGS
+};
+
+struct card {
+    uint32_t period, refi, r;
+    uint8_t mr2;
+    uint32_t ps[TIMINGS];
+    uint8_t floor[TIMINGS];
+};
+
+struct latency {
+    uint8_t code;
+    uint16_t least;
+    uint8_t rl, wl[2];
+};
+
+static const struct latency latencies[] = {
+    {1, 6000, 3, {1, 1}},   {4, 2500, 6, {3, 3}},    {6, 1875, 8, {4, 4}},
+    {7, 1670, 9, {5, 5}},   {8, 1500, 10, {6, 8}},   {9, 1360, 11, {6, 9}},
+    {10, 1250, 12, {6, 9}}, {12, 1071, 14, {8, 11}}, {14, 938, 16, {8, 13}},
+};
+
+/* The row of an MR2 value that MRW may write under this period, or null. */
+static inline const struct latency *latency_of(uint8_t mr2, uint32_t period)
+{
+    if (mr2 & 0xA0)
+        return 0;
+    for (unsigned i = 0; i < sizeof latencies / sizeof *latencies; i++)
+        if (latencies[i].code == (mr2 & 15) && latencies[i].least <= period)
+            return &latencies[i];
+    return 0;
+}
+
+static inline enum kind decode(uint32_t pins)
+{
+    static const uint8_t by_ca[16] = {MRW, WR, ACT, RESERVED, REFPB, RD, ACT, NOP,
+                                      MRR, WR, ACT, PRE,      REFAB, RD, ACT, NOP};
+    if (pins >> 20 & 1)
+        return NOP;
+    enum kind k = by_ca[pins & 15];
+    if (k == PRE)
+        return pins >> 4 & 1 ? PREA : PRE;
+    if (k == RD || k == WR)
+        return k + (pins >> 10 & 1);
+    return k;
+}
+
+static inline unsigned bank_bits(uint32_t pins) { return pins >> 7 & 7; }
+static inline unsigned ma_bits(uint32_t pins) { return pins >> 4 & 255; }
+static inline unsigned op_bits(uint32_t pins) { return pins >> 12 & 255; }
+
+/* rN is the first cycle that rule N permits, counted from the latest entry it names; 0 where there is none.
+   Read and write rules stand in pairs, the read's first. r5 serves rule 5 or 6, whichever precharge says. */
+struct bank {
+    uint64_t r4, r5, r7, r8, r9;
+    uint64_t r15_17[2], r16_18[3]; /* [2] is never asked */
+    uint64_t act10, ref10;
+    unsigned precharge;
+};
+
+struct record {
+    uint64_t next; /* least stamp an entry may have */
+    uint64_t fail; /* first cycle that fails without another counted refresh */
+    uint64_t gate; /* greatest of r1, r2, r3 */
+    uint64_t r1, r2, r3, r4;
+    uint64_t r12[2]; /* to a read, to a write */
+    uint64_t r14_13[2];
+    uint64_t recent; /* latest ACT or REFpb, plus tRRD */
+    uint64_t r11[4]; /* the four latest ACT or REFpb, plus tFAW; the oldest at [oldest] */
+    unsigned oldest;
+    unsigned open; /* one bit a bank */
+    unsigned counter;
+    unsigned fail_rule;
+    uint64_t rcd, rppb, rpab, ras, rc, rrd, faw, rfcab, rfcpb, mrr, mrw;
+    uint64_t turn[2], to_pre[2]; /* read to write, write to read; to PRE; under the MR2 in force */
+    uint64_t commands, refreshes;
+    int64_t ledger; /* after the last counted refresh */
+    uint64_t dues;  /* multiples of the interval through that refresh */
+    uint64_t interval;
+    struct bank bank[8];
+    struct card card;
+};
+
+struct refusal {
+    unsigned number, rule;
+    uint64_t cycle;
+};
+
+INLINE unsigned is_write(enum kind k) { return k == WR || k == WRA; }
+
+static inline uint64_t clocks(const struct card *c, uint64_t ps, uint64_t floor)
+{
+    uint64_t n = (ps + c->period - 1) / c->period;
+    return n > floor ? n : floor;
+}
+
+static inline void set_mr2(struct record *r, uint8_t mr2)
+{
+    const struct card *c = &r->card;
+    const struct latency *l = latency_of(mr2, c->period);
+    unsigned wl = l->wl[mr2 >> 6 & 1];
+    r->turn[0] = l->rl + clocks(c, c->ps[tDQSCK], c->floor[tDQSCK]) + 5 - wl;
+    r->turn[1] = wl + 5 + clocks(c, c->ps[tWTR], c->floor[tWTR]);
+    r->to_pre[1] = wl + 5 + clocks(c, c->ps[tWR], c->floor[tWR]);
+}
+
+static inline void count_refresh(struct record *r, uint64_t t)
+{
+    uint64_t dues = t / r->interval;
+    int64_t ledger = r->ledger + (int64_t)(dues - r->dues) - 1;
+    r->ledger = ledger < -8 ? -8 : ledger;
+    r->dues = dues;
+    r->refreshes++;
+    uint64_t fail19 = (dues + (uint64_t)(9 - r->ledger)) * r->interval;
+    uint64_t fail20 = t + 9 * r->interval + 1;
+    r->fail = fail19 <= fail20 ? fail19 : fail20;
+    r->fail_rule = fail19 <= fail20 ? 19 : 20;
+}
+
+static inline int64_t ledger_at(const struct record *r, uint64_t t)
+{
+    return r->ledger + (int64_t)(t / r->interval - r->dues);
+}
+
+static inline void begin(struct record *r, const struct card *c)
+{
+    memset(r, 0, sizeof *r);
+    r->card = *c;
+    for (int b = 0; b < 8; b++)
+        r->bank[b].precharge = 5;
+    uint64_t n[TIMINGS];
+    for (int i = 0; i < TIMINGS; i++)
+        n[i] = clocks(c, c->ps[i], c->floor[i]);
+    r->rcd = n[tRCD], r->rppb = n[tRPpb], r->rpab = n[tRPab], r->ras = n[tRAS];
+    r->rrd = n[tRRD], r->faw = n[tFAW], r->rfcab = n[tRFCab], r->rfcpb = n[tRFCpb];
+    r->mrr = n[tMRR], r->mrw = n[tMRW];
+    r->to_pre[0] = n[tRTP] > 4 ? n[tRTP] : 4;
+    r->rc = clocks(c, (uint64_t)c->ps[tRAS] + c->ps[tRPpb], (uint64_t)c->floor[tRAS] + c->floor[tRPpb]);
+    r->interval = c->refi / c->period;
+    r->fail = 9 * r->interval;
+    r->fail_rule = 19;
+    set_mr2(r, c->mr2);
+}
+
+#define ASK(rule, cycle)      \
+    do {                      \
+        if (t < (cycle)) {    \
+            *first = (cycle); \
+            return (rule);    \
+        }                     \
+    } while (0)
+
+static inline void raise_to(uint64_t *a, uint64_t b)
+{
+    if (*a < b)
+        *a = b;
+}
+
+static unsigned ask_gate(const struct record *r, uint64_t t, uint64_t *first)
+{
+    ASK(1, r->r1);
+    ASK(2, r->r2);
+    ASK(3, r->r3);
+    return 0;
+}
+
+/* Rule 10: the latest ACT, and for an ACT the latest REFpb too, to another bank. */
+static uint64_t other_banks(const struct record *r, unsigned bank, bool act)
+{
+    uint64_t c = 0;
+    for (unsigned b = 0; b < 8; b++)
+        if (b != bank) {
+            raise_to(&c, r->bank[b].act10);
+            if (act)
+                raise_to(&c, r->bank[b].ref10);
+        }
+    return c;
+}
+
+/* The rules that speak for a command naming every bank: idle use, or PRE-all. */
+static unsigned ask_all(const struct record *r, enum kind k, uint64_t t, uint64_t *first)
+{
+    uint64_t c[19] = {0};
+    c[4] = r->r4;
+    for (unsigned i = 0; i < 8; i++) {
+        const struct bank *b = &r->bank[i];
+        if (k == PREA) {
+            raise_to(&c[8], b->r8);
+            raise_to(&c[15], b->r15_17[0]);
+            raise_to(&c[17], b->r15_17[1]);
+        } else {
+            raise_to(&c[b->precharge], b->r5);
+            raise_to(&c[9], b->r9);
+            raise_to(&c[16], b->r16_18[0]);
+            raise_to(&c[18], b->r16_18[1]);
+        }
+    }
+    for (unsigned rule = 4; rule <= 18; rule++)
+        ASK(rule, c[rule]);
+    return 0;
+}
+
+/* The lowest of rules 1 to 18 that k at t breaks, with its first permitted cycle; 0: none. */
+INLINE unsigned ask(const struct record *r, enum kind k, unsigned bank, uint64_t t, uint64_t *first)
+{
+    if (k == NOP)
+        return 0;
+    if (t < r->gate)
+        return ask_gate(r, t, first);
+    const struct bank *b = &r->bank[bank];
+    switch (k) {
+    case ACT:
+    case REFPB:
+        ASK(4, k == ACT ? b->r4 : r->r4);
+        ASK(b->precharge, b->r5);
+        ASK(9, b->r9);
+        if (t < r->recent)
+            ASK(10, other_banks(r, bank, k == ACT));
+        ASK(11, r->r11[r->oldest]);
+        ASK(16, b->r16_18[0]);
+        ASK(18, b->r16_18[1]);
+        return 0;
+    case RD:
+    case RDA:
+    case WR:
+    case WRA:
+        ASK(7, b->r7);
+        ASK(12, r->r12[is_write(k)]);
+        ASK(14 - is_write(k), r->r14_13[is_write(k)]);
+        return 0;
+    case MRR:
+        ASK(12, r->r12[0]);
+        ASK(14, r->r14_13[0]);
+        return 0;
+    case PRE:
+        ASK(4, b->r4);
+        ASK(8, b->r8);
+        ASK(15, b->r15_17[0]);
+        ASK(17, b->r15_17[1]);
+        return 0;
+    default:
+        return ask_all(r, k, t, first);
+    }
+}
+
+INLINE bool state_permits(const struct record *r, enum kind k, unsigned bank)
+{
+    switch (k) {
+    case ACT:
+    case REFPB:
+        return !(r->open >> bank & 1);
+    case RD:
+    case RDA:
+    case WR:
+    case WRA:
+        return r->open >> bank & 1;
+    case REFAB:
+    case MRW:
+        return !r->open;
+    default:
+        return true;
+    }
+}
+
+static inline void note_activation(struct record *r, uint64_t t)
+{
+    r->recent = t + r->rrd;
+    r->r11[r->oldest] = t + r->faw;
+    r->oldest = (r->oldest + 1) & 3;
+}
+
+INLINE void note(struct record *r, enum kind k, unsigned bank, uint32_t pins, uint64_t t)
+{
+    struct bank *b = &r->bank[bank];
+    unsigned w = is_write(k), ap = k == RDA || k == WRA;
+    r->commands += k != NOP;
+    switch (k) {
+    case ACT:
+        r->open |= 1u << bank;
+        b->r7 = t + r->rcd;
+        b->r8 = t + r->ras;
+        b->r9 = t + r->rc;
+        b->act10 = t + r->rrd;
+        note_activation(r, t);
+        break;
+    case RD:
+    case RDA:
+    case WR:
+    case WRA:
+        r->r12[w] = t + 4;
+        r->r14_13[1 - w] = t + r->turn[w];
+        b->r15_17[w] = t + r->to_pre[w];
+        b->r16_18[ap ? w : 2] = t + r->to_pre[w] + r->rppb;
+        r->open &= ~(ap << bank);
+        break;
+    case PRE:
+        r->open &= ~(1u << bank);
+        b->r5 = t + r->rppb;
+        b->precharge = 5;
+        break;
+    case PREA:
+        r->open = 0;
+        for (int i = 0; i < 8; i++) {
+            r->bank[i].r5 = t + r->rpab;
+            r->bank[i].precharge = 6;
+        }
+        break;
+    case REFPB:
+        b->r4 = r->r4 = t + r->rfcpb;
+        b->ref10 = t + r->rrd;
+        note_activation(r, t);
+        if (r->counter == 7)
+            count_refresh(r, t);
+        r->counter = (r->counter + 1) & 7;
+        break;
+    case REFAB:
+        r->r3 = t + r->rfcab;
+        raise_to(&r->gate, r->r3);
+        r->counter = 0;
+        count_refresh(r, t);
+        break;
+    case MRW:
+        r->r1 = t + r->mrw;
+        raise_to(&r->gate, r->r1);
+        if (ma_bits(pins) == 2)
+            set_mr2(r, op_bits(pins));
+        break;
+    case MRR:
+        r->r2 = t + r->mrr;
+        raise_to(&r->gate, r->r2);
+        r->r14_13[1] = t + r->turn[0];
+        break;
+    default:
+        break;
+    }
+    r->next = t + 1;
+}
+
+/* The rest of a step once its kind is known; inlined once a kind, so that one jump decides it all. */
+INLINE bool step_kind(struct record *r, enum kind k, unsigned bank, uint64_t t, uint32_t pins,
+                      struct refusal *no)
+{
+    unsigned ma = ma_bits(pins), op = op_bits(pins);
+    if (k == RESERVED || (k == MRW && !(ma >= 1 && ma <= 3) && ma != 11 && ma != 16 && ma != 17)) {
+        *no = (struct refusal){7, 0, 0};
+        return false;
+    }
+    if (!state_permits(r, k, bank)) {
+        *no = (struct refusal){8, 0, 0};
+        return false;
+    }
+    if (k == MRW && ((ma == 1 && (op & 7) != 3) || (ma == 2 && !latency_of((uint8_t)op, r->card.period)))) {
+        *no = (struct refusal){9, 0, 0};
+        return false;
+    }
+    uint64_t first;
+    unsigned rule = ask(r, k, bank, t, &first);
+    if (rule) {
+        *no = (struct refusal){10, rule, first};
+        return false;
+    }
+    if (t == r->fail && k != REFAB && !(k == REFPB && r->counter == 7)) {
+        *no = (struct refusal){11, r->fail_rule, r->fail};
+        return false;
+    }
+    note(r, k, bank, pins, t);
+    return true;
+}
+
+/* True: accepted and noted. False: refused, the record as it was. */
+static inline bool step(struct record *r, enum kind k, unsigned bank, uint64_t t, uint32_t pins,
+                        struct refusal *no)
+{
+    if (t < r->next) {
+        *no = (struct refusal){5, 0, 0};
+        return false;
+    }
+    if (t > r->fail) {
+        *no = (struct refusal){11, r->fail_rule, r->fail};
+        return false;
+    }
+    if (pins >> 21 != 1) {
+        *no = (struct refusal){6, 0, 0};
+        return false;
+    }
+    switch (k) {
+    case ACT:
+        return step_kind(r, ACT, bank, t, pins, no);
+    case RD:
+    case RDA:
+    case WR:
+    case WRA:
+        return step_kind(r, k, bank, t, pins, no);
+    case PRE:
+        return step_kind(r, PRE, bank, t, pins, no);
+    default:
+        return step_kind(r, k, bank, t, pins, no);
+    }
+}
+
+/* True: the trace may end at this cycle. */
+static inline bool finish(const struct record *r, uint64_t end, struct refusal *no)
+{
+    *no = (struct refusal){0, 0, 0};
+    if (end + 1 < r->next)
+        no->number = 5;
+    else if (end >= r->fail)
+        *no = (struct refusal){11, r->fail_rule, r->fail};
+    return !no->number;
+}
+
+#endif
