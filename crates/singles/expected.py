@@ -1,7 +1,8 @@
 #!/usr/bin/env python3
-# What singles is to write, from document 01: its rules over the list of earlier entries, its account cycle by cycle.
+# What singles is to write, from document 01: its rules over the list of earlier entries, its account cycle by cycle; and its table of calls.
 #   python3 crates/singles/expected.py > crates/singles/stdout
-import importlib.util, pathlib
+#   python3 crates/singles/expected.py table > crates/singles/src/table.rt
+import importlib.util, pathlib, sys
 
 # document 01's pins, one by one
 spec = importlib.util.spec_from_file_location("allpins", pathlib.Path(__file__).parents[1] / "allpins" / "expected.py")
@@ -254,7 +255,77 @@ def cases():
     return [(case, [call.strip() for call in line.split(",")]) for case, line in enumerate(lines, 1)]
 
 
+# ---- the calls, as the program has them: two words each
+PLACES = {"starting": "STARTING_MR2", "R": "GROUPS", "at": "LEDGER_AT", "number": "OWED", "four": "FOUR_COUNT"}
+
+
+def words_of(call, names):
+    """The first word's name and the second; `names` gathers the pins that are called by a name."""
+    words = call.split()
+    if words[0] == "put":
+        if words[1:] == ["last", "none"]:
+            return "NO_LAST", 0
+        place = PLACES.get(words[1], words[1].replace("floor", "_floor").replace("-", "_").upper())
+        return place, int(words[2], 0) + 8 * (words[1] == "number")
+    if words[0] in ("E", "move"):
+        return {"E": "END", "move": "MOVE"}[words[0]], int(words[1])
+    if words[0] == "pins":
+        return "0x" + words[1].lower(), int(words[-1])
+    name = "MRR" if words[:2] == ["MRR", "0"] else "_".join(words[:-2])
+    names[name] = pins_of(words[:-2])
+    return name, int(words[-1])
+
+
+def table():
+    names, rows = {}, []
+    for case, calls in cases():
+        rows += [("CASE", case)] + [words_of(call, names) for call in calls]
+    consts = "".join("const %s: u32 = 0x%x;\n\n" % item for item in names.items())
+    words = "".join("    %s,\n    %d,\n" % row for row in rows)
+    print(TABLE % {"consts": consts, "count": len(rows), "twice": 2 * len(rows), "words": words}, end="")
+
+
+TABLE = """\
+// The calls of all cases, two numbers each: what is called, and a stamp, a cycle or a value. Pins are an entry; a place of the record is a
+// value put there; CASE is the next case, a line of cases.txt, whose record starts fresh with the bench card.
+ghost use Prim.Native.Nat.{_<_};
+use crate::places::*;
+
+pub const CASE: u32 = 0x2000000;
+
+pub const END: u32 = 0x2000001;
+
+pub const MOVE: u32 = 0x2000002;
+
+// Pins: a command with its bank, or with MA and OP in hexadecimal.
+%(consts)spub const COUNT: usize = %(count)d;
+
+const WORDS: [u32; %(twice)d] = [
+%(words)s];
+
+fn word(i: usize) -> u32
+    requires { ⌜ i < %(twice)d ⌝ }
+{
+    WORDS[i]
+}
+
+pub fn what_at(i: usize) -> u32
+    requires { ⌜ i < %(count)d ⌝ }
+{
+    word(2 * i)
+}
+
+pub fn cycle_at(i: usize) -> u32
+    requires { ⌜ i < %(count)d ⌝ }
+{
+    word(2 * i + 1)
+}
+"""
+
+
 def main():
+    if sys.argv[1:] == ["table"]:
+        return table()
     for case, calls in cases():
         judge = Judge()
         for call in calls:

@@ -10,7 +10,7 @@ use lib.Dec.{leb}
 use lib.ListN.{length, getD, drop}
 use lib.Seq.{drop-length, drop-cons}
 use borrow.Author.Tests.{le-leb, lt-leb}
-use Rattle.bounds.specs.Values.{brokenFrom, greatestOf}
+use Rattle.bounds.specs.Parts.{brokenFrom, greatestOf}
 
 module _ (l : List ℕ) (i : ℕ) where
   -- the first that is left

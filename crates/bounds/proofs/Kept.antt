@@ -10,7 +10,7 @@ use lib.ListN.{length, getD, getElem?, take}
 use Rattle.rules.proofs.Tests.{le-cases}
 use Rattle.bank.specs.Values.{entry, kept, four}
 use Rattle.bank.specs.declared.Four.{Four}
-use Rattle.bounds.specs.Values.{foundAs, answerOf}
+use Rattle.bounds.specs.Parts.{foundAs, answerOf}
 
 pub first-kept : (s : Bool) (t n : ℕ) → answerOf (foundAs s t n) ≡ getElem? (kept s t n) 0
 unfolding answerOf kept

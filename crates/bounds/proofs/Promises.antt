@@ -1,8 +1,8 @@
 -- The promise of each public function determines its answer.
 use Prim.Native.Nat.{ℕ}
-use mathlib.Core.Path.{_≡_, refl, ap, sym, _∙_}
+use mathlib.Core.Path.{_≡_, refl, sym, _∙_}
 use mathlib.Core.Option.{Option, none, some}
-use Rattle.rules.proofs.Determined.{Promise, Determined, determined, fact-of}
+use Rattle.rules.proofs.Determined.{tells, Promise, Determined, determined, fact-of}
 use Rattle.bounds.specs.Values.{brokenOf}
 use Rattle.bounds.specs.declared.Broken.{Broken}
 use Rattle.bounds.specs.declared.Broken.the-variants.{Nothing, Rule}
@@ -19,15 +19,15 @@ back Nothing = refl
 back (Rule q t) = refl
 
 -- answers with the same rule and cycle are one
-one-broken : (r r′ : Broken) → brokenOf r ≡ brokenOf r′ → r ≡ r′
-one-broken r r′ e = sym (back r) ∙ ap brokenIn e ∙ back r′
+one-broken : {z : Option (ℕ × ℕ)} (x y : Broken) → brokenOf x ≡ z → brokenOf y ≡ z → x ≡ y
+one-broken = tells brokenOf brokenIn back
 
 abbrev first-broken-says : Promise first-broken.ended
 first-broken-says w = first-broken.clauses (w .𝓤) (w .H) (w .𝓖 .A) (w .𝓜 .mem) (w .𝓡 .run)
 
 pub first-broken-determined : Determined first-broken.ended first-broken-says
 first-broken-determined =
-    determined first-broken.ended first-broken-says (λ κs a r e. fact-of _) (λ κs a r r′ ws ws′ p p′. (one-broken r r′ (p ∙ sym p′), refl))
+    determined first-broken.ended first-broken-says (λ κs a r e. fact-of _) (λ κs a r r′ ws ws′ p p′. (one-broken r r′ p p′, refl))
 
 abbrev first-cycle-says : Promise first-cycle.ended
 first-cycle-says w = first-cycle.clauses (w .𝓤) (w .H) (w .𝓖 .A) (w .𝓜 .mem) (w .𝓡 .run)

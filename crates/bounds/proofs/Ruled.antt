@@ -20,7 +20,7 @@ use Rattle.pins.specs.Values.{commandOf}
 use Rattle.pins.specs.declared.Command.{Command}
 use Rattle.bank.specs.Values.{lentOf}
 use Rattle.bank.specs.declared.Record.{Record}
-use Rattle.bounds.specs.Values.{boundsOf, boundOf, askOf, askedFor, delayIn, sourcesOf, brokenFrom, greatestOf}
+use Rattle.bounds.specs.Parts.{boundsOf, boundOf, askOf, askedFor, delayIn, sourcesOf, brokenFrom, greatestOf}
 use Rattle.bounds.specs.declared.answers.Ask.{Ask}
 use Rattle.bounds.specs.declared.answers.Ask.the-variants.{Mrw, Mrr, Refab, Refpb, RefpbTo, PreTo, PreaTo, ActTo, FourthLast, Rd, Wr, RdOrMrr, RdTo, RdaTo, WrTo, WraTo}
 use Rattle.bounds.specs.declared.delays.Lag.{Lag}

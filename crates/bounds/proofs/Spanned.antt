@@ -11,7 +11,7 @@ use Rattle.rules.specs.Folds.{Source, permitted, permittedBy}
 use Rattle.rules.specs.Commands.{Command, nop, mrw, mrr, refpb, refab, act, rd, wr, pre, prea, code, is, kindOf, bankOf, carries, bare}
 use Rattle.rules.specs.Past.{bankAt}
 use Rattle.rules.specs.Delays.{Question, Lookup, without}
-use Rattle.bounds.specs.Values.{askedFor, range, spanOf, delayIn, permittedAfter, sourcesOf}
+use Rattle.bounds.specs.Parts.{askedFor, range, spanOf, delayIn, permittedAfter, sourcesOf}
 use Rattle.bounds.specs.declared.answers.Ask.{Ask}
 use Rattle.bounds.specs.declared.delays.Lag.{Lag}
 use Rattle.bounds.specs.declared.spans.Span.{Span}

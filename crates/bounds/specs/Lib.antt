@@ -1,2 +1,3 @@
--- The types of the code, read as the values of the rules.
+-- The answer of the code, read as the rules' own; words for its private parts.
 pub mod Values
+pub mod Parts

@@ -5,7 +5,7 @@ ghost use mathlib.Core.List.{[]};
 ghost use lib.ListN.{getD, getElem?};
 ghost use Rattle.rules.specs.Lent.{lookIn};
 ghost use Rattle.bank.specs.Values.{once, each, four, lentOf, outweighed};
-ghost use Rattle.bounds.specs.Values.{onceAs, foundAs, askedFor, answerOf};
+ghost use Rattle.bounds.specs.Parts.{onceAs, foundAs, askedFor, answerOf};
 use bank::Each;
 use bank::Four;
 use bank::Noted;

@@ -7,7 +7,7 @@ ghost use Rattle.rules.specs.Folds.{permittedBy};
 ghost use Rattle.rules.specs.Lent.{lookIn};
 ghost use Rattle.bank.specs.Values.{lentOf};
 ghost use Rattle.bounds.specs.declared.delays.Lag.the-variants.{Plain};
-ghost use Rattle.bounds.specs.Values.{delayIn, permittedAfter, sourcesOf, spanOf, answerOf, askedFor};
+ghost use Rattle.bounds.specs.Parts.{delayIn, permittedAfter, sourcesOf, spanOf, answerOf, askedFor};
 use crate::answers::Ask;
 use crate::answers::Found;
 use crate::answers::look;

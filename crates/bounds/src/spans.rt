@@ -6,7 +6,7 @@ ghost use Rattle.rules.specs.Commands.{banks, code, kindOf};
 ghost use Rattle.rules.specs.Past.{bankAt};
 ghost use Rattle.rules.specs.Delays.{idleUse, precharged, without};
 ghost use Rattle.pins.specs.Values.{commandOf};
-ghost use Rattle.bounds.specs.Values.{spanOf};
+ghost use Rattle.bounds.specs.Parts.{shownAs, spanOf};
 use pins::Command;
 
 // `count` banks from `first` on, without `but`.
@@ -19,40 +19,57 @@ pub struct Span {
 // No bank has this number.
 const NOBODY: u16 = 256;
 
-// The kind's number in the table of kinds.
-pub fn kind_of(command: Command) -> u8
-    ensures { λ r. ⌜ r ≡ code (kindOf (commandOf command)) ⌝ }
+// What the table looks at: the kind's number in the table of kinds, and the bank that the command acts on.
+pub struct Shown {
+    pub kind: u8,
+    pub bank: u8,
+}
+
+// REFpb acts on the counter's bank.
+fn look_at(command: Command, counter: u8) -> Shown
+    ensures { λ r. ⌜ r ≡ shownAs (code (kindOf (commandOf command))) (bankAt (commandOf command) counter) ⌝ }
 {
     match command {
-        Command::Nop => 0,
-        Command::Mrw { .. } => 1,
-        Command::Mrr { .. } => 2,
-        Command::Refpb => 3,
-        Command::Refab => 4,
-        Command::Act { .. } => 5,
-        Command::Rd { .. } => 6,
-        Command::Wr { .. } => 7,
-        Command::Pre { .. } => 8,
-        Command::Prea => 9,
+        Command::Nop => Shown { kind: 0, bank: 0 },
+        Command::Mrw { .. } => Shown { kind: 1, bank: 0 },
+        Command::Mrr { .. } => Shown { kind: 2, bank: 0 },
+        Command::Refpb => Shown {
+            kind: 3,
+            bank: counter,
+        },
+        Command::Refab => Shown { kind: 4, bank: 0 },
+        Command::Act { bank, .. } => Shown {
+            kind: 5,
+            bank: bank,
+        },
+        Command::Rd { bank, .. } => Shown {
+            kind: 6,
+            bank: bank,
+        },
+        Command::Wr { bank, .. } => Shown {
+            kind: 7,
+            bank: bank,
+        },
+        Command::Pre { bank } => Shown {
+            kind: 8,
+            bank: bank,
+        },
+        Command::Prea => Shown { kind: 9, bank: 0 },
     }
 }
 
-// The bank that a command acts on; REFpb acts on the counter's bank.
+pub fn kind_of(command: Command) -> u8
+    ensures { λ r. ⌜ r ≡ code (kindOf (commandOf command)) ⌝ }
+{
+    let x = look_at(command, 0);
+    x.kind
+}
+
 fn bank_at(command: Command, counter: u8) -> u8
     ensures { λ r. ⌜ r ≡ bankAt (commandOf command) counter ⌝ }
 {
-    match command {
-        Command::Refpb => counter,
-        Command::Act { bank, .. } => bank,
-        Command::Rd { bank, .. } => bank,
-        Command::Wr { bank, .. } => bank,
-        Command::Pre { bank } => bank,
-        Command::Nop => 0,
-        Command::Mrw { .. } => 0,
-        Command::Mrr { .. } => 0,
-        Command::Refab => 0,
-        Command::Prea => 0,
-    }
+    let x = look_at(command, counter);
+    x.bank
 }
 
 fn every() -> Span

@@ -1,7 +1,7 @@
 // The first cycles that the rules permit, for a command that comes to a record. A rule that does not speak of the command asks for no bank: 0.
 ghost use mathlib.Core.Path.{_≡_};
 ghost use mathlib.Core.List.{[], _∷_};
-ghost use Rattle.bounds.specs.Values.{boundsOf, boundOf};
+ghost use Rattle.bounds.specs.Parts.{boundsOf, boundOf};
 use crate::answers::Ask;
 use crate::delays::Lag;
 use crate::delays::later;

@@ -13,7 +13,8 @@ use Rattle.rules.specs.Card.{Timing}
 use Rattle.rules.specs.Units.{n}
 use Rattle.rules.specs.Ranges.{timingGood, timings}
 use Rattle.rules.proofs.Onward.{onward}
-use Rattle.card.specs.Values.{timingIn, cardOf, clipped, Counted}
+use Rattle.card.specs.Values.{timingIn, cardOf, clipped}
+use Rattle.card.specs.Parts.{Counted}
 use Rattle.card.specs.declared.Card.{Card}
 
 -- a test of every timing goes by their places

@@ -5,4 +5,5 @@ pub mod Found
 pub mod Lengths
 pub mod Numbers
 pub mod Fields
+pub mod BenchCard
 pub mod Promises

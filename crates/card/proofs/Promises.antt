@@ -10,6 +10,7 @@ use Rattle.card.proofs.registers.may_write as may-write
 use Rattle.card.proofs.registers.mr2_good as mr2-good
 use Rattle.card.proofs.timings.delays_of as delays-of
 use Rattle.card.proofs.timings.interval as interval
+use Rattle.card.proofs.benched.bench as bench
 use Rattle.card.proofs.values.blank as blank
 use Rattle.card.proofs.values.length_good as length-good
 use Rattle.card.proofs.values.read_value as read-value
@@ -77,6 +78,12 @@ delays-of-says w = delays-of.clauses (w .𝓤) (w .H) (w .𝓖 .A) (w .𝓜 .mem
 pub delays-of-determined : Determined delays-of.ended delays-of-says
 delays-of-determined =
     determined delays-of.ended delays-of-says (λ κs a r e. fact-of _) (λ κs a r r′ ws ws′ p p′. (clocks-tell r r′ (p ∙ sym p′), refl))
+
+abbrev bench-says : Promise bench.ended
+bench-says w = bench.clauses (w .𝓤) (w .H) (w .𝓖 .A) (w .𝓜 .mem) (w .𝓡 .run)
+
+pub bench-determined : Determined bench.ended bench-says
+bench-determined = determined bench.ended bench-says (λ κs a r e. fact-of _) (λ κs a r r′ ws ws′ p p′. (p ∙ sym p′, refl))
 
 abbrev blank-says : Promise blank.ended
 blank-says w = blank.clauses (w .𝓤) (w .H) (w .𝓖 .A) (w .𝓜 .mem) (w .𝓡 .run)

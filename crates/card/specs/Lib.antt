@@ -1,4 +1,6 @@
--- The types of the code, read as the paper has them.
+-- The types of the code, read as the rules' own; the words of its private parts.
 pub mod Values
-pub mod Rows
 pub mod Reading
+pub mod Bench
+pub mod Rows
+pub mod Parts

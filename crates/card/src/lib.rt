@@ -1,10 +1,12 @@
 // The device card by value: the ranges of its values, the latencies of MR2, its delays in clocks, and its fields read from bytes.
+mod benched;
 mod ranges;
 mod registers;
 mod timings;
 mod units;
 mod values;
 
+pub use benched::bench;
 pub use ranges::in_range;
 pub use registers::latency_of;
 pub use registers::may_write;

@@ -2,7 +2,8 @@
 ghost use mathlib.Core.Path.{_≡_};
 ghost use Prim.Native.Nat.{_+_, _<_, _^_};
 ghost use Rattle.rules.specs.Units as paper;
-ghost use Rattle.card.specs.Values.{cardOf, timingIn, clipped, clocksOf, shortened, Counted, Timed};
+ghost use Rattle.card.specs.Values.{cardOf, timingIn, clipped, clocksOf, shortened};
+ghost use Rattle.card.specs.Parts.{Counted, Timed};
 use crate::Card;
 use crate::Clocks;
 use crate::Delays;

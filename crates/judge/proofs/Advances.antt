@@ -20,7 +20,8 @@ use Rattle.judge.specs.declared.Verdict.{Verdict}
 use Rattle.judge.specs.declared.fields.Move.the-variants.{On, Wait, End}
 use Rattle.judge.specs.declared.fields.Took.{Took}
 use Rattle.judge.specs.declared.heads.Head.the-variants.{Whole}
-use Rattle.judge.specs.Took.{tookAs, wrapped, refusedHere, refusedBy, cardTook, recordWith, entryAfter, entryRefused, entryTook, recordClosed, endAfter, endTook, fieldTook, headTook, behindTook, asRead, tookOf}
+use Rattle.step.specs.Values.{recordWith}
+use Rattle.judge.specs.Took.{tookAs, wrapped, refusedHere, refusedBy, cardTook, entryAfter, entryRefused, entryTook, recordClosed, endAfter, endTook, fieldTook, headTook, behindTook, asRead, tookOf}
 use Rattle.judge.specs.Heard.{lineOf, headLine}
 use Rattle.judge.specs.Parts.{fieldIn, headAs, lineIn}
 use Rattle.judge.proofs.Fronts.{Fronted, front, may-come-as}

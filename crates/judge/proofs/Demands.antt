@@ -16,7 +16,8 @@ use Rattle.ledger.specs.Values.{stored}
 use Rattle.judge.specs.declared.Verdict.{Verdict}
 use Rattle.judge.specs.declared.Verdict.the-variants.{Accepted, Refused}
 use Rattle.judge.specs.Values.{verdictOf}
-use Rattle.judge.proofs.StandsEntry.{stored-is}
+use Rattle.rules.proofs.Determined.{tells}
+use Rattle.ledger.proofs.Promises.{stored-is}
 
 -- ---- no two verdicts read as one
 codeFor : FileVerdict → Verdict
@@ -29,7 +30,7 @@ code-for (Accepted m n o) = ap (Accepted m n) (stored-is o)
 code-for (Refused k q at t) = refl
 
 pub one-reading : (r s : Verdict) → verdictOf r ≡ verdictOf s → r ≡ s
-one-reading r s e = sym (code-for r) ∙ ap codeFor e ∙ code-for s
+one-reading r s e = tells verdictOf codeFor code-for r s e refl
 
 module _ (bytes : List ℕ) (r : Verdict) (e : verdictOf r ≡ judgeFile bytes) where
   -- ---- demand 2: the verdict is this one exactly where the file says so

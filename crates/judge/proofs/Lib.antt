@@ -22,6 +22,7 @@ pub mod Prefix
 pub mod Walks
 pub mod Outcome
 pub mod Chunks
+pub mod Near
 pub mod Progress
 pub mod Streams
 pub mod Promises

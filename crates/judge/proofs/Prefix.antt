@@ -99,7 +99,7 @@ module _ (st : State) (xs : List ℕ) where
   behind-stays [] m ys = absurd (m refl)
   behind-stays (c ∷ cs) m ys = refl
 
-  behind-on : (cs : List ℕ) (n : ℕ) → behindTook st cs .how ≡ On n → ⊥
+  pub behind-on : (cs : List ℕ) (n : ℕ) → behindTook st cs .how ≡ On n → ⊥
   unfolding behindTook refusedBy
   behind-on [] n e = on-wait (sym e)
   behind-on (c ∷ cs) n e = on-end (sym e)

@@ -1,5 +1,5 @@
 -- The end field: refused as the list refuses it, or taken, and then the state remembers the verdict, which stands unless a byte more comes.
-use Prim.Native.Nat.{ℕ, _+_, _≤_, _<_}
+use Prim.Native.Nat.{ℕ, _+_, _^_, _≤_, _<_}
 use mathlib.Core.Path.{_≡_, refl, ap, sym, _∙_}
 use mathlib.Core.Bool.{true, false}
 use mathlib.Core.Logic.{⊎-elim}
@@ -27,10 +27,10 @@ use Rattle.bank.specs.Values.{lentOf}
 use Rattle.judge.specs.declared.State.{State}
 use Rattle.judge.specs.declared.fields.Move.the-variants.{On}
 use Rattle.judge.specs.Values.{verdictOf}
-use Rattle.judge.specs.Took.{tookAs, refusedHere, recordClosed, endAfter, endTook, fieldTook}
+use Rattle.judge.specs.Took.{tookAs, wrapped, refusedHere, recordClosed, endAfter, endTook, fieldTook}
 use Rattle.judge.specs.Heard.{endedAt}
 use Rattle.judge.proofs.Overflow.{size-small}
-use Rattle.judge.proofs.Stands.{Stands, offset-behind}
+use Rattle.judge.proofs.Stands.{Stands, far-below, offset-behind}
 use Rattle.judge.proofs.StandsEntry.{stored-back, in-range, paid}
 
 -- behind a good end field
@@ -38,6 +38,7 @@ pub record Ended (st : State) (v : FileVerdict) (at : ℕ) : Type 0 where
   pub read : st .read ≡ 19
   pub says : verdictOf (endedAt st) ≡ v
   pub offset : st .offset ≡ at
+  pub near : (st .commands ≤ 2 ^ 32) × (st .refreshes ≤ 2 ^ 32) × (st .offset < 2 ^ 37)
 
 early : (card : rules.Card) (past : Past) (end : ℕ) → end < standsAt card past 0 → endRefusal card past end ≡ some (refusal 5 0 0)
 unfolding standingLedger lastCycle endRefusal endChecks notBelow firstOf orElse unless
@@ -91,5 +92,9 @@ module _ {st : State} {fs : List Field} {past : Past} {at : ℕ} (s : Stands st 
     end-stands n = record {
       read = refl;
       says = unfold verdictOf endedAt recordClosed acceptedAt in rw (s .commands, s .refreshes, owed-is (endOf f) n);
-      offset = offset-behind s f (size-small fs f form (omega arith));
+      offset = there;
+      near = let b = far-below s in (b .0, b .1, omega (arith, there, s .offset, b .2, size-small fs f form (omega arith)));
     }
+      where
+        there : wrapped (st .offset + sizeOf f) ≡ at + sizeOf f
+        there = offset-behind s f (size-small fs f form (omega arith))

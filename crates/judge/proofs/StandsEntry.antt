@@ -27,7 +27,7 @@ use Rattle.rules.proofs.StepByList.{lent-good, step-after, step-keeps}
 use Rattle.card.specs.Values as code
 use Rattle.card.proofs.Fits.{fits}
 use Rattle.ledger.specs.Values.{ledgerOf, stored, codeOf}
-use Rattle.ledger.proofs.Promises.{code-is}
+use Rattle.ledger.proofs.Promises.{stored-is}
 use Rattle.bank.specs.Values.{lentOf}
 use Rattle.bank.specs.After.{AfterArgs, afterCommand, recordAfter}
 use Rattle.bank.proofs.Changed.{after-is, good-args, record-after}
@@ -36,17 +36,14 @@ use Rattle.step.proofs.Leaves.{bank-by, as-offered}
 use Rattle.step.proofs.Runs.{by-list}
 use Rattle.judge.specs.declared.State.{State}
 use Rattle.judge.specs.declared.fields.Move.the-variants.{On}
-use Rattle.judge.specs.Took.{tookAs, wrapped, refusedHere, recordWith, entryAfter, entryRefused, entryTook, fieldTook}
+use Rattle.step.specs.Values.{recordWith}
+use Rattle.judge.specs.Took.{tookAs, wrapped, refusedHere, entryAfter, entryRefused, entryTook, fieldTook}
 use Rattle.judge.specs.Heard.{fieldLine}
 use Rattle.judge.proofs.Arrays.{after-whole}
 use Rattle.judge.proofs.Overflow.{Bytes, wrapped-is, stamp-small, size-small}
 use Rattle.judge.proofs.Stands.{Stands, far-below, offset-behind}
 
 -- ---- a ledger over the list is stored as it is
-pub stored-is : (o : ℕ) → stored (subℕ o 8) ≡ o
-unfolding codeOf ledgerOf
-stored-is o = ap (λ g. g .owed) (code-is (record { at = 0; owed = o; refreshed = 0 }))
-
 pub stored-back : (I : ℕ) (cs : List ℕ) (t : ℕ) → subℕ (stored (ledgerAfter 8 I cs t)) 8 ≡ ledgerAfter 8 I cs t
 unfolding ledgerAfter
 stored-back I cs t = rw (ledger-biased 8 I cs (suc t), stored-is (owed 8 I cs (suc t)))

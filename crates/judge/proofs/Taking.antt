@@ -39,13 +39,13 @@ use Rattle.judge.specs.declared.heads.Head.{Head}
 use Rattle.judge.specs.declared.heads.Head.the-variants.{Whole, Cut, BadTag, BadLength}
 use Rattle.judge.specs.declared.told.Told.{Told}
 use Rattle.judge.specs.declared.told.Told.the-variants.{Good, Bad}
+use Rattle.step.specs.Values.{recordWith}
 use Rattle.judge.specs.Took.{
   tookAs,
   wrapped,
   refusedHere,
   refusedBy,
   cardTook,
-  recordWith,
   entryAfter,
   entryRefused,
   entryTook,

@@ -9,17 +9,15 @@ use Rattle.rules.specs.Units.{delaysOf}
 use Rattle.rules.specs.Commands.{NOP, is}
 use Rattle.rules.specs.Past.{isCounted}
 use Rattle.rules.specs.Checks.{Refusal}
-use Rattle.rules.specs.Entries.{Entry}
 use Rattle.rules.specs.Form.{Field, sizeOf, Head, whole, cut, badTag, badLength, headOf, entryOf, endOf}
-use Rattle.rules.specs.Lent.{commandIn, ledgerWith, closeRefusal, moved}
+use Rattle.rules.specs.Lent.{commandIn, closeRefusal, moved}
 use Rattle.card.specs.Values.{cardOf, shortened}
 use Rattle.card.specs.Reading.{readOf}
 use Rattle.ledger.specs.declared.Ledger.{Ledger}
 use Rattle.ledger.specs.Values.{ledgerOf, codeOf}
 use Rattle.bank.specs.declared.Record.{Record}
 use Rattle.bank.specs.Values.{lentOf, freshOf}
-use Rattle.bank.specs.After.{recordAfter}
-use Rattle.step.specs.Values.{offerRefusal}
+use Rattle.step.specs.Values.{offerRefusal, recordWith}
 use Rattle.judge.specs.declared.State.{State}
 use Rattle.judge.specs.declared.Verdict.{Verdict}
 use Rattle.judge.specs.declared.Verdict.the-variants.{Accepted, Refused}
@@ -56,10 +54,6 @@ cardTook st f =
     (refusedBy (r .refusal) st)
 
 -- ---- an entry
--- the record after an entry that is taken, to the bit
-unfoldable pub recordWith : Record → Entry → Record
-recordWith rec e = recordAfter rec (commandIn (lentOf rec) e) (e .stamp) (codeOf (ledgerWith (lentOf rec) e))
-
 unfoldable pub entryAfter : State → Field → State
 entryAfter st f =
     let c = commandIn (lentOf (st .rec)) (entryOf f) in

@@ -7,17 +7,11 @@ ghost use Rattle.rules.specs.Pins as paper;
 ghost use Rattle.rules.specs.Entries as entries;
 ghost use Rattle.pins.specs.Values.{commandOf};
 use pins::Command;
-use pins::Decoded;
 
-// Pins that are no command are taken for NOP.
 pub fn command_on(pins: u32) -> Command
     ensures { λ r. ⌜ commandOf r ≡ entries.commandOf (paper.decode pins) ⌝ }
 {
-    match pins::decode(pins) {
-        Decoded::Good(command) => command,
-        Decoded::WrongBits => Command::Nop,
-        Decoded::Reserved => Command::Nop,
-    }
+    step::command_of(pins::decode(pins))
 }
 
 // All but NOP.
@@ -33,14 +27,8 @@ pub fn commands_by(command: Command) -> u64
 pub fn refreshes_by(command: Command, counter: u8) -> u64
     ensures { λ r. ⌜ r ≡ cond (isCounted (commandOf command) counter) 1 0 ⌝ }
 {
-    match command {
-        Command::Refab => 1,
-        Command::Refpb => {
-            if counter == 7 {
-                return 1;
-            }
-            0
-        }
-        _ => 0,
+    if step::counts(command, counter) {
+        return 1;
     }
+    0
 }

@@ -29,10 +29,5 @@ pub fn of_step(answer: step::Answer) -> Told
 pub fn of_ledger(answer: ledger::Answer) -> Told
     ensures { λ r. ⌜ toldOf r ≡ paid.refusalOf answer ⌝ }
 {
-    match answer {
-        ledger::Answer::Done => Told::Good,
-        ledger::Answer::BadRecord => Told::Bad(13, 0, 0),
-        ledger::Answer::Earlier => Told::Bad(5, 0, 0),
-        ledger::Answer::Overdue { rule, cycle } => Told::Bad(11, rule, cycle),
-    }
+    of_step(step::as_told(answer))
 }

@@ -17,7 +17,8 @@ use Rattle.rules.specs.Units.{interval}
 use Rattle.rules.proofs.Tests.{le-cases, both-true}
 use Rattle.rules.proofs.Rounding.{interval-positive}
 use Rattle.rules.proofs.Taken.{owing-biased}
-use Rattle.ledger.specs.Values.{ledgerOf, admitted}
+use Rattle.ledger.specs.Values.{ledgerOf}
+use Rattle.ledger.specs.Parts.{admitted}
 use Rattle.ledger.specs.declared.Ledger as code
 
 module _ (card : Card) (g : Ledger) (t : ℕ) where

@@ -14,7 +14,7 @@ use Rattle.rules.proofs.Tests.{le-cases}
 use Rattle.rules.proofs.Idle.{owedAt, next19, next20, after20, firstNext, idle-biased, idle-closed}
 use Rattle.ledger.specs.declared.account.Idle.{Idle}
 use Rattle.ledger.specs.declared.account.Idle.the-variants.{Stands, Breaks}
-use Rattle.ledger.specs.Values.{IdleArgs, stands, breaks, outcome, idleTo}
+use Rattle.ledger.specs.Parts.{IdleArgs, stands, breaks, outcome, idleTo}
 
 pub stands-tell : {x y : ℕ} → Path Idle (Stands x) (Stands y) → x ≡ y
 stands-tell e = cc

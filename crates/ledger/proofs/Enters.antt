@@ -16,7 +16,8 @@ use Rattle.rules.proofs.Ledgers.{none-failing-below, as-it-was}
 use Rattle.ledger.specs.declared.Ledger.{Ledger}
 use Rattle.ledger.specs.declared.Answer.the-variants.{Done}
 use Rattle.ledger.specs.declared.After.{After}
-use Rattle.ledger.specs.Values.{ledgerOf, refusalOf, isNone, unlessRefused, Left, NextArgs}
+use Rattle.ledger.specs.Values.{ledgerOf, refusalOf, isNone, unlessRefused, Left}
+use Rattle.ledger.specs.Parts.{NextArgs}
 
 -- what an answer that is a refusal, and one that is none, says of the promise
 pub refused-left : (o : Option Refusal) (old new : lent.Ledger) (r : After) → Left o old new r → isNone (refusalOf (r .answer)) ≡ false →

@@ -15,7 +15,8 @@ use Rattle.ledger.specs.declared.Ledger.{Ledger}
 use Rattle.ledger.specs.declared.Answer.{Answer}
 use Rattle.ledger.specs.declared.Answer.the-variants.{Done, Overdue}
 use Rattle.ledger.specs.declared.After.{After}
-use Rattle.ledger.specs.Values.{stands, breaks, outcome, idleTo, ledgerOf, refusalOf, unlessRefused, Left}
+use Rattle.ledger.specs.Values.{ledgerOf, refusalOf, unlessRefused, Left}
+use Rattle.ledger.specs.Parts.{stands, breaks, outcome, idleTo}
 
 pub sound-is : (g : Ledger) → (owingGood (ledgerOf g .owing) && refreshedGood (ledgerOf g)) ≡ (leb (g .owed) 16 && leb (g .refreshed) (g .at))
 unfolding ledgerOf refreshedGood

@@ -10,7 +10,7 @@ use lib.IntN.{ℤ, pos, negsuc, subℕ}
 use Rattle.rules.specs.Checks.{Refusal, refusal}
 use Rattle.rules.specs.Lent as lent
 use Rattle.rules.proofs.Tests.{lt-cases}
-use Rattle.rules.proofs.Determined.{Promise, Determined, determined, fact-of}
+use Rattle.rules.proofs.Determined.{tells, Promise, Determined, determined, fact-of}
 use Rattle.ledger.specs.declared.Ledger.{Ledger}
 use Rattle.ledger.specs.declared.Answer.{Answer}
 use Rattle.ledger.specs.declared.Answer.the-variants.{Done, BadRecord, Earlier, Overdue}
@@ -32,7 +32,7 @@ answer-is BadRecord = refl
 answer-is Earlier = refl
 answer-is (Overdue q t) = refl
 
-stored-is : (x : ℕ) → stored (subℕ x 8) ≡ x
+pub stored-is : (x : ℕ) → stored (subℕ x 8) ≡ x
 unfolding stored
 stored-is x = ⊎-elim
     (λ (p : (x < 8) × (ltb x 8 ≡ true)). rw (p .1) (omega arith))
@@ -46,8 +46,8 @@ code-is g = λ i. record { at = g .at; owed = stored-is (g .owed) i; refreshed =
 -- two that are told and left so are one
 pub one-left : (o : Option Refusal) (old new : lent.Ledger) (r s : After) → Left o old new r → Left o old new s → r ≡ s
 one-left o old new r s p q =
-    let a : r .answer ≡ s .answer = sym (answer-is (r .answer)) ∙ ap answerOf (p .told ∙ sym (q .told)) ∙ answer-is (s .answer) in
-    let g : r .ledger ≡ s .ledger = sym (code-is (r .ledger)) ∙ ap codeOf (p .ledger ∙ sym (q .ledger)) ∙ code-is (s .ledger) in
+    let a : r .answer ≡ s .answer = tells refusalOf answerOf answer-is (r .answer) (s .answer) (p .told) (q .told) in
+    let g : r .ledger ≡ s .ledger = tells ledgerOf codeOf code-is (r .ledger) (s .ledger) (p .ledger) (q .ledger) in
     λ i. record { ledger = g i; answer = a i }
 
 abbrev moved-says : Promise moved.ended

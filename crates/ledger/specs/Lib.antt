@@ -1,2 +1,3 @@
--- The types of the code, read as the values of the rules.
+-- The types of the code, read as the values of the rules; the words of its private parts.
 pub mod Values
+pub mod Parts

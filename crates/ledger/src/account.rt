@@ -1,7 +1,7 @@
 // The account over idle time in closed form, on plain numbers.
 ghost use mathlib.Core.Path.{_≡_};
 ghost use Prim.Native.Nat.{max, min};
-ghost use Rattle.ledger.specs.Values.{IdleArgs, IdleDone};
+ghost use Rattle.ledger.specs.Parts.{IdleArgs, IdleDone};
 
 // Some cycles with no counted refresh: the ledger then, or the first cycle that fails, with its rule.
 pub enum Idle {

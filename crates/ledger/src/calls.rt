@@ -5,7 +5,8 @@ ghost use Rattle.rules.specs.Lent.{owingGood, refreshedGood, moveRefusal, enter
 ghost use Rattle.rules.specs.Lent as lent;
 ghost use Rattle.rules.specs.Units as units;
 ghost use Rattle.card.specs.Values.{cardOf};
-ghost use Rattle.ledger.specs.Values.{ledgerOf, Left, ReachArgs, admitted, accountOf, newOf, askedOf};
+ghost use Rattle.ledger.specs.Values.{ledgerOf, Left};
+ghost use Rattle.ledger.specs.Parts.{ReachArgs, admitted, accountOf, newOf, askedOf};
 use crate::After;
 use crate::Answer;
 use crate::Ledger;

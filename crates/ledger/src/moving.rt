@@ -1,6 +1,7 @@
 // A ledger moved on through idle time.
 ghost use mathlib.Core.Path.{_≡_};
-ghost use Rattle.ledger.specs.Values.{afterAs, ReachArgs, Reached};
+ghost use Rattle.ledger.specs.Values.{afterAs};
+ghost use Rattle.ledger.specs.Parts.{ReachArgs, Reached};
 use crate::After;
 use crate::Answer;
 use crate::Ledger;

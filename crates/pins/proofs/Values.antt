@@ -1,11 +1,12 @@
 -- The code's values are told apart by the values of the rules that they are read as.
-use mathlib.Core.Path.{_≡_, refl, ap, sym, _∙_}
+use mathlib.Core.Path.{_≡_, refl, ap}
 use mathlib.Core.Bool.{cond}
 use mathlib.Core.Option.{Option, none, some}
 use lib.Dec.{eqb}
 use Rattle.rules.specs.Commands as rules
 use Rattle.rules.specs.Pins as pins
 use Rattle.rules.specs.Checks.{Refusal, refusal}
+use Rattle.rules.proofs.Determined.{tells}
 use Rattle.pins.specs.declared.Command.{Command}
 use Rattle.pins.specs.declared.Command.the-variants.{Nop, Mrw, Mrr, Refpb, Refab, Act, Rd, Wr, Pre, Prea}
 use Rattle.pins.specs.declared.Decoded.{Decoded}
@@ -61,9 +62,8 @@ wrote-back Done = refl
 wrote-back Unfit = refl
 wrote-back NoRoom = refl
 
--- two that are read as one value are one
-tells : {A B : Type 0} (f : A → B) (g : B → A) → ((x : A) → g (f x) ≡ x) → {z : B} (x y : A) → f x ≡ z → f y ≡ z → x ≡ y
-tells f g back x y p q = sym (back x) ∙ ap g (p ∙ sym q) ∙ back y
+pub one-command : {z : rules.Command} (x y : Command) → commandOf x ≡ z → commandOf y ≡ z → x ≡ y
+one-command = tells commandOf command command-back
 
 pub one-decoded : {z : pins.Decoded} (x y : Decoded) → decodedOf x ≡ z → decodedOf y ≡ z → x ≡ y
 one-decoded = tells decodedOf decoded decoded-back

@@ -1,37 +1,10 @@
 // The refresh cases of document 01, refusals, and moves over all 2^32 cycles. A line each: the refusal's number, rule and cycle, then the
 // ledger's cycle, number with 8 added, and last counted refresh. The file stdout is worked out by expected.py, due by due.
 ghost use Prim.Native.Nat.{_≤_, _<_};
-use card::Card;
 use ledger::After;
 use ledger::Answer;
 use ledger::Ledger;
 use libc::STDOUT_FILENO;
-
-fn bench() -> Card {
-    Card {
-        period: 1250,
-        mr2: 26,
-        groups: 8192,
-        trefi: 3900000,
-        durations: [
-            18000,
-            18000,
-            21000,
-            42000,
-            10000,
-            50000,
-            7500,
-            15000,
-            7500,
-            5500,
-            130000,
-            60000,
-            0,
-            0,
-        ],
-        floors: [3, 3, 3, 3, 2, 8, 4, 4, 4, 0, 0, 0, 4, 10],
-    }
-}
 
 fn stands(at: u32, owed: u8, refreshed: u32) -> Ledger {
     Ledger {
@@ -73,11 +46,11 @@ fn show(after: After) -> Ledger {
 }
 
 fn moves(ledger: Ledger, to: u32) -> Ledger {
-    show(ledger::moved(ledger, bench(), to))
+    show(ledger::moved(ledger, card::bench(), to))
 }
 
 fn enters(ledger: Ledger, stamp: u32, counted: bool) -> Ledger {
-    show(ledger::entered(ledger, bench(), stamp, counted))
+    show(ledger::entered(ledger, card::bench(), stamp, counted))
 }
 
 // Counted refreshes from the ledger's cycle on, 104 apart.
@@ -89,7 +62,7 @@ fn refreshes(from: Ledger, first: u32, count: u32) -> Ledger
     while i < count {
         let stamp = first as u64 + (i * 104) as u64;
         if stamp < 4294967296 {
-            ledger = ledger::entered(ledger, bench(), stamp as u32, true).ledger;
+            ledger = ledger::entered(ledger, card::bench(), stamp as u32, true).ledger;
         }
         i += 1;
     }
@@ -130,7 +103,7 @@ fn refusals() {
     moves(stands(5, 8, 5), 4);
     enters(stands(5, 255, 0), 9, true);
     enters(stands(5, 8, 5), 4, true);
-    let mut bad = bench();
+    let mut bad = card::bench();
     bad.period = 0;
     show(ledger::moved(stands(0, 8, 0), bad, 1));
     show(ledger::entered(stands(0, 8, 0), bad, 1, false));
@@ -142,7 +115,7 @@ fn all_cycles(from: Ledger) -> Ledger {
     let mut to: u64 = 24960;
     while to < 4294967296 {
         ledger = refreshes(
-            ledger::moved(ledger, bench(), to as u32).ledger,
+            ledger::moved(ledger, card::bench(), to as u32).ledger,
             to as u32,
             9,
         );

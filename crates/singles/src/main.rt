@@ -6,35 +6,8 @@ mod places;
 mod table;
 
 use bank::Record;
-use card::Card;
 use pins::Command;
 use pins::Decoded;
-
-fn bench() -> Card {
-    Card {
-        period: 1250,
-        mr2: 26,
-        groups: 8192,
-        trefi: 3900000,
-        durations: [
-            18000,
-            18000,
-            21000,
-            42000,
-            10000,
-            50000,
-            7500,
-            15000,
-            7500,
-            5500,
-            130000,
-            60000,
-            0,
-            0,
-        ],
-        floors: [3, 3, 3, 3, 2, 8, 4, 4, 4, 0, 0, 0, 4, 10],
-    }
-}
 
 fn steps(rec: Record, stamp: u32, pins: u32) -> Record {
     let stepped = step::step(rec, stamp, pins);
@@ -95,7 +68,7 @@ fn shows_read() {
 }
 
 fn main() {
-    let fresh = bank::fresh_record(bench());
+    let fresh = bank::fresh_record(card::bench());
     let mut rec = fresh;
     let mut case: u32 = 0;
     let mut i: usize = 0;

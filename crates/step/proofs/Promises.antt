@@ -6,12 +6,11 @@ use lib.Dec.{eqb}
 use Rattle.rules.specs.Entries.{Entry}
 use Rattle.rules.specs.Checks.{Refusal, refusal}
 use Rattle.rules.specs.Lent as lent
-use Rattle.rules.proofs.Determined.{Promise, Determined, determined, fact-of}
+use Rattle.rules.proofs.Determined.{tells, Promise, Determined, determined, fact-of}
+use Rattle.pins.proofs.Values.{one-command}
 use Rattle.ledger.specs.declared.Ledger.{Ledger}
-use Rattle.ledger.specs.declared.Answer.the-variants.{Done}
-use Rattle.ledger.specs.declared.After.{After}
 use Rattle.ledger.specs.Values as paid
-use Rattle.ledger.proofs.Promises.{one-left}
+use Rattle.ledger.proofs.Promises.{code-is}
 use Rattle.bank.specs.declared.Record.{Record}
 use Rattle.bank.specs.Values.{lentOf}
 use Rattle.bank.specs.After.{recordAfter}
@@ -19,8 +18,11 @@ use Rattle.step.specs.declared.Answer.{Answer}
 use Rattle.step.specs.declared.Answer.the-variants.{Taken, BadRecord, Early, Overdue, WrongBits, Reserved, State, Value, TooSoon}
 use Rattle.step.specs.declared.Stepped.{Stepped}
 use Rattle.step.specs.Values.{refusalOf, Left}
+use Rattle.step.proofs.account.as_told as as-told
+use Rattle.step.proofs.account.counts as counts
 use Rattle.step.proofs.offering.offered as offered
 use Rattle.step.proofs.offering.step as step
+use Rattle.step.proofs.reading.command_of as command-of
 
 -- the case that has these numbers
 abbrev numbered : Refusal → Answer
@@ -49,18 +51,15 @@ answer-is State = refl
 answer-is Value = refl
 answer-is (TooSoon q t) = refl
 
--- two ledgers that are read so are one
-one-ledger : (l : lent.Ledger) (g h : Ledger) → paid.ledgerOf g ≡ l → paid.ledgerOf h ≡ l → g ≡ h
-unfolding paid.refusalOf paid.unlessRefused
-one-ledger l g h p q =
-    ap (λ (a : After). a .ledger)
-    (one-left none l l (paid.afterAs g Done) (paid.afterAs h Done) (record { told = refl; ledger = p }) (record { told = refl; ledger = q }))
+-- two answers with the same numbers are one
+one-answer : {z : Option Refusal} (x y : Answer) → refusalOf x ≡ z → refusalOf y ≡ z → x ≡ y
+one-answer = tells refusalOf answerOf answer-is
 
 -- two that are told and left so are one
 pub one-stepped : (o : Option Refusal) (rec : Record) (e : Entry) (r s : Stepped) → Left o rec e r → Left o rec e s → r ≡ s
 one-stepped o rec e r s p q =
-    let a : r .answer ≡ s .answer = sym (answer-is (r .answer)) ∙ ap answerOf (p .told ∙ sym (q .told)) ∙ answer-is (s .answer) in
-    let g : r .rec .ledger ≡ s .rec .ledger = one-ledger _ _ _ (p .ledger) (q .ledger) in
+    let a : r .answer ≡ s .answer = one-answer (r .answer) (s .answer) (p .told) (q .told) in
+    let g : r .rec .ledger ≡ s .rec .ledger = tells paid.ledgerOf paid.codeOf code-is _ _ (p .ledger) (q .ledger) in
     let after : Ledger → Record = λ x. paid.unlessRefused o rec (recordAfter rec (lent.commandIn (lentOf rec) e) (e .stamp) x) in
     let x : r .rec ≡ s .rec = p .is ∙ ap after g ∙ sym (q .is) in
     λ i. record { rec = x i; answer = a i }
@@ -76,3 +75,22 @@ step-says w = step.clauses (w .𝓤) (w .H) (w .𝓖 .A) (w .𝓜 .mem) (w .𝓡
 
 pub step-determined : Determined step.ended step-says
 step-determined = determined step.ended step-says (λ κs a r e. fact-of _) (λ κs a r r′ ws ws′ p p′. (one-stepped _ _ _ r r′ p p′, refl))
+
+abbrev as-told-says : Promise as-told.ended
+as-told-says w = as-told.clauses (w .𝓤) (w .H) (w .𝓖 .A) (w .𝓜 .mem) (w .𝓡 .run)
+
+pub as-told-determined : Determined as-told.ended as-told-says
+as-told-determined = determined as-told.ended as-told-says (λ κs a r e. fact-of _) (λ κs a r r′ ws ws′ p p′. (one-answer r r′ p p′, refl))
+
+abbrev counts-says : Promise counts.ended
+counts-says w = counts.clauses (w .𝓤) (w .H) (w .𝓖 .A) (w .𝓜 .mem) (w .𝓡 .run)
+
+pub counts-determined : Determined counts.ended counts-says
+counts-determined = determined counts.ended counts-says (λ κs a r e. fact-of _) (λ κs a r r′ ws ws′ p p′. (p ∙ sym p′, refl))
+
+abbrev command-of-says : Promise command-of.ended
+command-of-says w = command-of.clauses (w .𝓤) (w .H) (w .𝓖 .A) (w .𝓜 .mem) (w .𝓡 .run)
+
+pub command-of-determined : Determined command-of.ended command-of-says
+command-of-determined =
+    determined command-of.ended command-of-says (λ κs a r e. fact-of _) (λ κs a r r′ ws ws′ p p′. (one-command r r′ p p′, refl))

@@ -10,7 +10,7 @@ use Rattle.rules.specs.Folds.{firstOf}
 use Rattle.rules.specs.Entries.{Entry, read}
 use Rattle.rules.specs.Checks.{Refusal, refusal, unless, checks}
 use Rattle.rules.specs.Lent.{Lent, viewIn, aboveLast, commandIn, failingTo, failingOf, ledgerGood, ledgerWith, lentGood, lentAfter}
-use Rattle.ledger.specs.Values.{ledgerOf, unlessRefused}
+use Rattle.ledger.specs.Values.{ledgerOf, codeOf, unlessRefused}
 use Rattle.bank.specs.declared.Record.{Record}
 use Rattle.bank.specs.Values.{lentOf}
 use Rattle.bank.specs.After.{recordAfter}
@@ -46,6 +46,10 @@ offerRefusal d l e =
     checks (l .card) d (viewIn l) (aboveLast (l .last) t && leb (l .ledger .at) t) (failingTo I (l .ledger) t) (failingOf I (ledgerWith l e))
     (read (l .card) (viewIn l) e) t
     )
+
+-- the record after an entry that is taken, to the bit
+unfoldable pub recordWith : Record → Entry → Record
+recordWith rec e = recordAfter rec (commandIn (lentOf rec) e) (e .stamp) (codeOf (ledgerWith (lentOf rec) e))
 
 -- this refusal, or none, is told; the record then is the one after the entry, or on a refusal the old one, to the bit; and what it is to the rules
 pub record Left (o : Option Refusal) (rec : Record) (e : Entry) (r : Stepped) : Type 0 where

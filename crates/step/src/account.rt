@@ -30,6 +30,7 @@ fn rises(last: Once, stamp: u32) -> bool
     last.at < stamp
 }
 
+// Whether it is a counted refresh.
 pub fn counts(command: Command, counter: u8) -> bool
     ensures { λ r. ⌜ r ≡ isCounted (commandOf command) counter ⌝ }
 {
@@ -68,7 +69,8 @@ fn opening(rises: bool, told: ledger::Answer, stamp: u32) -> Answer
     }
 }
 
-fn as_told(told: ledger::Answer) -> Answer
+// What a ledger tells, as an answer of a step.
+pub fn as_told(told: ledger::Answer) -> Answer
     ensures { λ r. ⌜ refusalOf r ≡ paid.refusalOf told ⌝ }
 {
     match told {

@@ -4,9 +4,12 @@ mod delays;
 mod offering;
 mod reading;
 
+pub use account::as_told;
+pub use account::counts;
 use bank::Record;
 pub use offering::offered;
 pub use offering::step;
+pub use reading::command_of;
 
 // What a caller is told: the entry is taken, or a refusal; 10 and 11 with the rule and the cycle.
 pub enum Answer {

@@ -3,7 +3,7 @@ use borrow.Author.Needs.{needs}
 use Rattle.rules.specs.Delays.{means, latestOf, laggingOf, fourthOf, latestIf}
 use Rattle.rules.specs.Lent.{lookIn}
 use Rattle.bank.specs.Values.{once, noted, each, notedEach, preOf, preaOf, asked, lentOf}
-use Rattle.bounds.specs.Values.{askOf, askedFor}
+use Rattle.bounds.specs.Parts.{askOf, askedFor}
 use Rattle.bounds.proofs.Kept.{first-kept}
 use Rattle.bounds.proofs.answers.look.Statement.{statement}
 use Rattle.bounds.proofs.answers.look.Tie as tie

@@ -1,7 +1,7 @@
 use mathlib.Core.Path.{refl}
 use native.Mathlib.Omega.{arith}
 use borrow.Author.Needs.{needs}
-use Rattle.bounds.specs.Values.{delayIn}
+use Rattle.bounds.specs.Parts.{delayIn}
 use Rattle.bounds.proofs.delays.delay_by.Statement.{statement}
 use Rattle.bounds.proofs.delays.delay_by.Tie as tie
 

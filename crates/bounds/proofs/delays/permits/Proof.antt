@@ -1,6 +1,6 @@
 use borrow.Author.Tests.{not-true, not-false}
 use borrow.Author.Needs.{needs}
-use Rattle.bounds.specs.Values.{permittedAfter, answerOf}
+use Rattle.bounds.specs.Parts.{permittedAfter, answerOf}
 use Rattle.bounds.proofs.delays.permits.Statement.{statement}
 use Rattle.bounds.proofs.delays.permits.Tie as tie
 

@@ -7,7 +7,7 @@ use Rattle.rules.specs.Delays.{without}
 use Rattle.rules.specs.Folds.{permittedBy}
 use Rattle.rules.specs.Lent.{lookIn}
 use Rattle.bank.specs.Values.{lentOf}
-use Rattle.bounds.specs.Values.{range, spanOf, sourcesOf}
+use Rattle.bounds.specs.Parts.{range, spanOf, sourcesOf}
 use Rattle.bounds.proofs.Spanned.{begins, goes-on, all-asked}
 use Rattle.bounds.proofs.delays.since.Statement.{statement}
 use Rattle.bounds.proofs.delays.since.Tie as tie

@@ -4,7 +4,8 @@ use mathlib.Core.Path.{_≡_, refl}
 use native.Mathlib.Omega.{arith}
 use lib.ListN.{drop}
 use borrow.Author.Needs.{needs}
-use Rattle.bounds.specs.Values.{brokenOf, brokenFrom}
+use Rattle.bounds.specs.Values.{brokenOf}
+use Rattle.bounds.specs.Parts.{brokenFrom}
 use Rattle.bounds.proofs.Folded.{breaks, holds, all-hold}
 use Rattle.bounds.proofs.folds.broken.Statement.{statement}
 use Rattle.bounds.proofs.folds.broken.Tie as tie

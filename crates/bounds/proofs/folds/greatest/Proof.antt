@@ -4,7 +4,7 @@ use mathlib.Core.Path.{_≡_, refl}
 use native.Mathlib.Omega.{arith}
 use lib.ListN.{drop}
 use borrow.Author.Needs.{needs}
-use Rattle.bounds.specs.Values.{greatestOf}
+use Rattle.bounds.specs.Parts.{greatestOf}
 use Rattle.bounds.proofs.Folded.{greater, greatest-of-all}
 use Rattle.bounds.proofs.folds.greatest.Statement.{statement}
 use Rattle.bounds.proofs.folds.greatest.Tie as tie

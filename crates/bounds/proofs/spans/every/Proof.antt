@@ -1,7 +1,7 @@
 use mathlib.Core.Path.{refl}
 use Rattle.rules.specs.Commands.{banks}
 use Rattle.rules.specs.Delays.{without}
-use Rattle.bounds.specs.Values.{range, spanOf}
+use Rattle.bounds.specs.Parts.{range, spanOf}
 use Rattle.bounds.proofs.spans.every.Statement.{statement}
 use Rattle.bounds.proofs.spans.every.Tie as tie
 

@@ -3,7 +3,7 @@ use borrow.Author.Needs.{needs}
 use Rattle.rules.specs.Commands.{banks}
 use Rattle.rules.specs.Lists.{when}
 use Rattle.rules.specs.Delays.{without}
-use Rattle.bounds.specs.Values.{range, spanOf}
+use Rattle.bounds.specs.Parts.{range, spanOf}
 use Rattle.bounds.proofs.spans.others_if.Statement.{statement}
 use Rattle.bounds.proofs.spans.others_if.Tie as tie
 

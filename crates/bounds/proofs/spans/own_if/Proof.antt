@@ -4,7 +4,7 @@ use borrow.Author.Tests.{ne-eqb}
 use borrow.Author.Needs.{needs}
 use Rattle.rules.specs.Lists.{when}
 use Rattle.rules.specs.Delays.{without}
-use Rattle.bounds.specs.Values.{range, spanOf}
+use Rattle.bounds.specs.Parts.{range, spanOf}
 use Rattle.bounds.proofs.spans.own_if.Statement.{statement}
 use Rattle.bounds.proofs.spans.own_if.Tie as tie
 

@@ -2,7 +2,7 @@ use Prim.Native.Nat.{_≤_, _-_}
 use mathlib.Core.Path.{refl, _≡_}
 use native.Mathlib.Omega.{arith}
 use lib.ListN.{length-set, length}
-use Rattle.card.specs.Values.{Counted}
+use Rattle.card.specs.Parts.{Counted}
 use Rattle.card.proofs.Columns.{counted-more}
 use Rattle.card.proofs.timings.all_clocks.Statement.{statement}
 use Rattle.card.proofs.timings.all_clocks.Tie as tie

@@ -1,7 +1,8 @@
 use lib.Dec.{lit<}
 use borrow.Author.Needs.{needs}
 use Rattle.rules.specs.Units.{delaysOf}
-use Rattle.card.specs.Values.{Counted, clocksOf, shortened, cardOf}
+use Rattle.card.specs.Values.{clocksOf, shortened, cardOf}
+use Rattle.card.specs.Parts.{Counted}
 use Rattle.card.proofs.timings.delays_of.Statement.{statement}
 use Rattle.card.proofs.timings.delays_of.Tie as tie
 

@@ -4,7 +4,7 @@ use mathlib.Core.Path.{ap, sym, _∙_, subst}
 use native.Mathlib.Nat.{div-le-self}
 use native.Mathlib.Omega.{arith}
 use borrow.Author.Needs.{needs}
-use Rattle.ledger.specs.Values.{breaks, idleOf}
+use Rattle.ledger.specs.Parts.{breaks, idleOf}
 use Rattle.ledger.proofs.Closing.{over-near, past-le, within, stands-so, breaks-19, breaks-20, stands-tell, not-stands}
 use Rattle.ledger.proofs.account.idle_to.Statement.{statement}
 use Rattle.ledger.proofs.account.idle_to.Tie as tie

@@ -3,7 +3,8 @@ use mathlib.Core.Path.{refl, sym, _∙_}
 use borrow.Author.Needs.{needs}
 use Rattle.rules.specs.Folds.{firstOf}
 use Rattle.rules.proofs.Decided.{or-none}
-use Rattle.ledger.specs.Values.{ledgerOf, refusalOf, askedOf}
+use Rattle.ledger.specs.Values.{ledgerOf, refusalOf}
+use Rattle.ledger.specs.Parts.{askedOf}
 use Rattle.ledger.proofs.Moves.{refused-as}
 use Rattle.ledger.proofs.Admission.{refused-13, refused-5, not-refused, stood-args}
 use Rattle.ledger.proofs.calls.asked.Statement.{statement}

@@ -3,7 +3,7 @@ use borrow.Author.Needs.{needs}
 use Rattle.rules.specs.Folds.{firstOf}
 use Rattle.rules.specs.Lent as lent
 use Rattle.rules.proofs.Decided.{or-none}
-use Rattle.ledger.specs.Values.{accountOf, newOf, askedOf}
+use Rattle.ledger.specs.Parts.{accountOf, newOf, askedOf}
 use Rattle.ledger.proofs.calls.entered.Statement.{statement}
 use Rattle.ledger.proofs.calls.entered.Tie as tie
 

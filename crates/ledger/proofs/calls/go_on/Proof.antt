@@ -1,6 +1,6 @@
 -- One of the two questions.
 use borrow.Author.Needs.{needs}
-use Rattle.ledger.specs.Values.{accountOf, newOf}
+use Rattle.ledger.specs.Parts.{accountOf, newOf}
 use Rattle.ledger.proofs.calls.go_on.Statement.{statement}
 use Rattle.ledger.proofs.calls.go_on.Tie as tie
 

@@ -1,7 +1,7 @@
 -- Idle time through a cycle.
 use borrow.Author.Needs.{needs}
 use Rattle.rules.specs.Lent as lent
-use Rattle.ledger.specs.Values.{accountOf, newOf, askedOf}
+use Rattle.ledger.specs.Parts.{accountOf, newOf, askedOf}
 use Rattle.ledger.proofs.calls.moved.Statement.{statement}
 use Rattle.ledger.proofs.calls.moved.Tie as tie
 

@@ -3,7 +3,7 @@ use mathlib.Core.Path.{sym, _∙_}
 use borrow.Author.Tests.{not-true, not-false}
 use borrow.Author.Needs.{needs}
 use Rattle.rules.specs.Folds.{orElse}
-use Rattle.ledger.specs.Values.{accountOf, newOf}
+use Rattle.ledger.specs.Parts.{accountOf, newOf}
 use Rattle.ledger.proofs.Enters.{refused-left, stood-left}
 use Rattle.ledger.proofs.entering.enter.Statement.{statement}
 use Rattle.ledger.proofs.entering.enter.Tie as tie

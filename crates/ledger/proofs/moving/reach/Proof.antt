@@ -1,7 +1,7 @@
 -- A ledger moved on, by the account's closed form.
 use mathlib.Core.Path.{ap, sym, _∙_}
 use borrow.Author.Needs.{needs}
-use Rattle.ledger.specs.Values.{idleOf}
+use Rattle.ledger.specs.Parts.{idleOf}
 use Rattle.ledger.proofs.Moves.{none-failing, one-failing}
 use Rattle.ledger.proofs.moving.reach.Statement.{statement}
 use Rattle.ledger.proofs.moving.reach.Tie as tie

@@ -1,0 +1,99 @@
+-- The private types of the code, read as questions, answers, banks and delays of the rules; the bounds by rule.
+use Prim.Native.Nat.{ℕ, zero, suc, _+_, _-_, max}
+use mathlib.Core.Bool.{Bool, cond}
+use mathlib.Core.List.{List, [], _∷_, map}
+use mathlib.Core.Option.{Option, none, some}
+use lib.Dec.{leb}
+use lib.ListN.{getD}
+use Rattle.rules.specs.Registers.{rlOf, wlOf}
+use Rattle.rules.specs.Folds.{Source, bound}
+use Rattle.rules.specs.Folds as folds
+use Rattle.rules.specs.Delays as paper
+use Rattle.rules.specs.Delays.{Question, without}
+use Rattle.rules.specs.Lent.{lookIn}
+use Rattle.card.specs.Values.{clocksOf}
+use Rattle.card.specs.declared.Delays.{Delays}
+use Rattle.pins.specs.Values.{commandOf}
+use Rattle.pins.specs.declared.Command.{Command}
+use Rattle.bank.specs.Values.{entry, lentOf}
+use Rattle.bank.specs.declared.Once.{Once}
+use Rattle.bank.specs.declared.Record.{Record}
+use Rattle.bounds.specs.declared.answers.Ask.{Ask}
+use Rattle.bounds.specs.declared.answers.Ask.the-variants.{Mrw, Mrr, Refab, Refpb, RefpbTo, PreTo, PreaTo, ActTo, FourthLast, Rd, Wr, RdOrMrr, RdTo, RdaTo, WrTo, WraTo}
+use Rattle.bounds.specs.declared.answers.Found.{Found}
+use Rattle.bounds.specs.declared.spans.Shown.{Shown}
+use Rattle.bounds.specs.declared.spans.Span.{Span}
+use Rattle.bounds.specs.declared.delays.Lag.{Lag}
+use Rattle.bounds.specs.declared.delays.Lag.the-variants.{Plain, Written, Turned}
+
+-- the bounds of the rules, by rising number
+unfoldable pub boundsOf : Record → Delays → Command → List ℕ
+boundsOf rec d c = map (bound (lookIn (lentOf rec .history))) (paper.delayRules (clocksOf d) (commandOf c) (rec .counter))
+
+-- rule k's
+unfoldable pub boundOf : Record → Delays → Command → ℕ → ℕ
+boundOf rec d c k = getD (boundsOf rec d c) (k - 1) 0
+
+-- rule k is the first of these
+unfoldable pub brokenFrom : (k : ℕ) → List ℕ → (stamp : ℕ) → Option (ℕ × ℕ)
+brokenFrom k [] t = none
+brokenFrom k (b ∷ bs) t = cond (leb b t) (brokenFrom (suc k) bs t) (some (k, b))
+
+unfoldable pub greatestOf : List ℕ → ℕ
+greatestOf [] = 0
+greatestOf (b ∷ bs) = max b (greatestOf bs)
+
+-- ---- questions and answers
+unfoldable pub askOf : Ask → paper.Ask
+askOf Mrw = paper.lastMRW
+askOf Mrr = paper.lastMRR
+askOf Refab = paper.lastREFab
+askOf Refpb = paper.lastREFpb
+askOf RefpbTo = paper.lastREFpb-to
+askOf PreTo = paper.lastPRE-to
+askOf PreaTo = paper.lastPREA-to
+askOf ActTo = paper.lastACT-to
+askOf FourthLast = paper.fourthLast
+askOf Rd = paper.lastRD
+askOf Wr = paper.lastWR
+askOf RdOrMrr = paper.lastRDorMRR
+askOf RdTo = paper.lastRD-to
+askOf RdaTo = paper.lastRDA-to
+askOf WrTo = paper.lastWR-to
+askOf WraTo = paper.lastWRA-to
+
+unfoldable pub askedFor : Ask → ℕ → Question
+askedFor a b = record { ask = askOf a; bank = b }
+
+abbrev pub onceAs : Bool → ℕ → Once
+onceAs s t = record { seen = s; at = t }
+
+abbrev pub foundAs : Bool → (at mr2 : ℕ) → Found
+foundAs s t m = record { seen = s; at = t; mr2 = m }
+
+unfoldable pub answerOf : Found → Option (folds.Found ℕ)
+answerOf x = cond (x .seen) (some (entry (x .at) (x .mr2))) none
+
+-- ---- the banks asked for
+abbrev pub shownAs : (kind bank : ℕ) → Shown
+shownAs k b = record { kind = k; bank = b }
+
+unfoldable pub range : (first count : ℕ) → List ℕ
+range first zero = []
+range first (suc n) = first ∷ range (suc first) n
+
+unfoldable pub spanOf : Span → List ℕ
+spanOf s = without (s .but) (range (s .first) (s .count))
+
+-- ---- delays
+unfoldable pub delayIn : Lag → (clocks mr2 : ℕ) → ℕ
+delayIn Plain d m = d
+delayIn Written d m = wlOf m + d
+delayIn Turned d m = rlOf m + d - wlOf m
+
+unfoldable pub permittedAfter : Lag → (clocks : ℕ) → Option (folds.Found ℕ) → ℕ
+permittedAfter g d none = 0
+permittedAfter g d (some f) = f .stamp + delayIn g d (f .noted)
+
+unfoldable pub sourcesOf : List ℕ → Ask → Lag → (clocks : ℕ) → List (Source Question ℕ)
+sourcesOf bs a g d = map (λ b. record { ask = askedFor a b; delay = delayIn g d }) bs

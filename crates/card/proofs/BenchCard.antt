@@ -1,0 +1,9 @@
+-- The bench card of the code is the rules' own.
+use mathlib.Core.Path.{_≡_, refl}
+use Rattle.rules.specs.Bench as paper
+use Rattle.card.specs.Values.{cardOf, timingIn}
+use Rattle.card.specs.Bench.{benchCard}
+
+pub bench-is : cardOf benchCard ≡ paper.bench
+unfolding cardOf timingIn benchCard paper.bench paper.benchAt paper.timing
+bench-is = refl
