@@ -1,9 +1,11 @@
 """Writes the files of data/, the arguments, and stdout: what the program must print of them. Run it in this folder.
 
 Each file stands for a point of document 01. Where a refusal is expected it is written here by hand, from the document; paper.py works out the rest, and must
-come to the same refusal."""
+come to the same refusal. The last files are those of examples/, whose README has their verdicts."""
 import os
+import re
 import shutil
+import subprocess
 import sys
 
 sys.dont_write_bytecode = True
@@ -294,11 +296,23 @@ def form_cases():
                        (155, wr(5, 1)), (200, pre(5)), (210, PREA), (230, REFAB)], 400)
 
 
+def example_cases():
+    """The traces of examples/, made of their texts, with the verdicts of the table in its README; examples/NAME.trace is a link to the file here."""
+    folder = "../../examples/"
+    with open(folder + "README.md") as f:
+        verdicts = re.findall(r"^\| `(.+)` \| `(.+)` \|$", f.read(), re.M)
+    assert sorted(n + ".txt" for n, _ in verdicts) == sorted(n for n in os.listdir(folder) if n.endswith(".txt")), verdicts
+    for name, verdict in verdicts:
+        assert os.readlink(folder + name + ".trace") == "../crates/corpus/data/example-" + name, name
+        data = subprocess.run(["../../bin/trace-text", folder + name + ".txt"], stdout=subprocess.PIPE, check=True).stdout
+        case("example-" + name, data, verdict)
+
+
 def small():
     return trace([(0, act(0)), (15, rd(0))], 20)
 
 
-for build in (bench_cases, rule_cases, mr2_cases, refusal_cases, order_cases, account_cases, form_cases):
+for build in (bench_cases, rule_cases, mr2_cases, refusal_cases, order_cases, account_cases, form_cases, example_cases):
     build()
 
 shutil.rmtree("data", ignore_errors=True)

@@ -12,7 +12,6 @@ pub put-spec : {M : Type 1} → statement M
 put-spec =
     tie.close
     (tie.spec
-    (λ c. search needs)
     slice-aggregate-write-all
     (λ c κs. search needs)
     (λ c. search needs)

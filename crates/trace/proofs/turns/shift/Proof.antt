@@ -4,8 +4,8 @@ use mathlib.Core.Path.{_≡_, refl}
 use lib.ListN.{length, length-set}
 use Rattle.trace.proofs.Shifts.{Shifted, shifted-none, shifted-next, shifted-all}
 use borrow.Author.Needs.{needs}
-use Rattle.trace.proofs.shift.Statement.{statement}
-use Rattle.trace.proofs.shift.Tie as tie
+use Rattle.trace.proofs.turns.shift.Statement.{statement}
+use Rattle.trace.proofs.turns.shift.Tie as tie
 
 abbrev Inv-loop : tie.InvT-loop
 Inv-loop buf₀ from to size i₀ buf i = (length buf ≡ length buf₀) × (i ≤ size) × Shifted from i buf₀ buf

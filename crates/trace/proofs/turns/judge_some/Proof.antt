@@ -3,8 +3,8 @@ use lib.ListN.{length}
 use lib.Seq.{length-take-le}
 use Rattle.trace.proofs.Calling.{used-there, called}
 use borrow.Author.Needs.{needs}
-use Rattle.trace.proofs.call.Statement.{statement}
-use Rattle.trace.proofs.call.Tie as tie
+use Rattle.trace.proofs.turns.judge_some.Statement.{statement}
+use Rattle.trace.proofs.turns.judge_some.Tie as tie
 
 slice-aggregate-feed : tie.Need-slice-aggregate-feed
 slice-aggregate-feed c = sym (length-take-le _ _ (c .before .before .before .pre))
@@ -17,19 +17,20 @@ shift-requires c κs =
 
 returns : tie.Need-returns
 returns c =
-    let m = c .before .before in
+    let m = c .before .before .before in
     let f = m .before .before .before .before .before in
     let s = f .before .before .before .before .before in
-    called _ (s .args .have) (s .args .buf .now) (s .pre) (f .feed .ensures) (m .shift .ensures .0) (m .shift .ensures .1)
+    called _ (s .args .have) (s .args .buf .now) (s .pre) (f .feed .ensures) (c .next-of .ensures) (m .shift .ensures .0) (m .shift .ensures .1)
 
-pub call-spec : {M : Type 1} → statement M
-call-spec =
+pub judge-some-spec : {M : Type 1} → statement M
+judge-some-spec =
     tie.close
     (tie.spec
     (λ c. search needs)
     slice-aggregate-feed
     (λ c κs. search needs)
     shift-requires
+    (λ c κs. search needs)
     (λ c. search needs)
     (λ c. search needs)
     returns)

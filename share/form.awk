@@ -1,0 +1,129 @@
+# The form of a trace: the card's fields by tag, commands on the pins, a field as text. Document 01, "The file" and "Commands on the pins".
+# Numbers of 32 bits are printed by %.0f: %d stops at 2^31 - 1 in some awks.
+
+BEGIN {
+    CARD = split("period mr2 groups trefi trcd trppb trpab tras trrd tfaw trtp twr twtr tdqsck trfcab trfcpb tmrr tmrw", NAME, " ")
+    for (tag = 1; tag <= CARD; tag++) {
+        TAG[NAME[tag]] = tag
+        SIZE[tag] = 5
+    }
+    SIZE[1] = 4; SIZE[2] = 1; SIZE[3] = 2; SIZE[4] = 4
+    ENTRY = 32; SIZE[ENTRY] = 7
+    LAST = 33; SIZE[LAST] = 4
+
+    POW[0] = 1
+    for (k = 1; k <= 24; k++)
+        POW[k] = 2 * POW[k - 1]
+
+    # by CA0r to CA3r, CA0r the lowest bit; "-" is the reserved pattern
+    split("MRW WR ACT - REFPB RD ACT NOP MRR WR ACT PRE REFAB RD ACT NOP", KIND, " ")
+    for (k = 16; k >= 1; k--)
+        CODE[KIND[k]] = k - 1
+
+    # what a command carries, and the most that the pins hold of it
+    TAKES["ACT"] = "bank row"
+    TAKES["RD"] = TAKES["RDA"] = TAKES["WR"] = TAKES["WRA"] = "bank col"
+    TAKES["PRE"] = "bank"
+    TAKES["MRW"] = "ma op"
+    TAKES["MRR"] = "ma"
+    TAKES["PREA"] = TAKES["REFAB"] = TAKES["REFPB"] = TAKES["NOP"] = ""
+    MOST["bank"] = 7; MOST["row"] = 32767; MOST["col"] = 4095; MOST["ma"] = MOST["op"] = 255
+}
+
+function bits(x, from, count) {
+    return int(x / POW[from]) % POW[count]
+}
+
+# The pins of a command that carries v. The names with A for AP or for all banks have one bit more.
+function pins_of(name, v,    kind, p) {
+    if (name == "NOP")
+        return 3 * POW[20]
+    kind = name
+    sub(/A$/, "", kind)
+    p = POW[21] + CODE[kind]
+    if (kind == "MRW" || kind == "MRR")
+        return p + v["ma"] * POW[4] + v["op"] * POW[12]
+    if (kind == "ACT")
+        return p + bits(v["row"], 8, 5) * POW[2] + v["bank"] * POW[7] + bits(v["row"], 0, 8) * POW[10] + bits(v["row"], 13, 2) * POW[18]
+    if (kind == "RD" || kind == "WR")
+        return p + bits(v["col"], 1, 2) * POW[5] + v["bank"] * POW[7] + (name != kind) * POW[10] + bits(v["col"], 3, 9) * POW[11]
+    if (kind == "PRE")
+        return p + (name != kind ? POW[4] : v["bank"] * POW[7])
+    return p
+}
+
+# The name of the command on the pins, with what it carries in v; "-" where there is none.
+function command_on(p, v,    name) {
+    split("", v)
+    if (bits(p, 21, 3) != 1)
+        return "-"
+    name = bits(p, 20, 1) ? "NOP" : KIND[1 + p % 16]
+    if (name == "PRE" && bits(p, 4, 1) || (name == "RD" || name == "WR") && bits(p, 10, 1))
+        name = name "A"
+    v["bank"] = bits(p, 7, 3)
+    if (name == "MRW" || name == "MRR") {
+        v["ma"] = bits(p, 4, 8)
+        v["op"] = name == "MRW" ? bits(p, 12, 8) : 0
+    }
+    if (name == "ACT")
+        v["row"] = bits(p, 10, 8) + bits(p, 2, 5) * POW[8] + bits(p, 18, 2) * POW[13]
+    if (name ~ /^(RD|WR)/)
+        v["col"] = bits(p, 5, 2) * POW[1] + bits(p, 11, 9) * POW[3]
+    return name
+}
+
+function command_text(name, v,    n, i, word, text) {
+    text = name
+    n = split(TAKES[name], word, " ")
+    for (i = 1; i <= n; i++) {
+        text = text " " (word[i] == "bank" ? "" : word[i] " ")
+        text = text (word[i] == "row" ? sprintf("0x%04x", v["row"]) : word[i] == "op" ? sprintf("0x%02x", v["op"]) : v[word[i]])
+    }
+    return text
+}
+
+# A command by its name where the name gives these very pins, else the pins with the name in a comment.
+function pins_text(p,    name, v, raw) {
+    name = command_on(p, v)
+    if (name != "-" && pins_of(name, v) == p)
+        return command_text(name, v)
+    raw = sprintf("PINS 0x%06x", p)
+    if (name != "-")
+        return raw "  # " command_text(name, v) ", with ignored bits set"
+    return raw (bits(p, 21, 3) != 1 ? "  # bits 21 to 23 are wrong" : "  # reserved")
+}
+
+# The number in count bytes of b, the highest first.
+function number_at(b, from, count,    x) {
+    x = 0
+    while (count-- > 0)
+        x = 256 * x + b[from++]
+    return x
+}
+
+# Whether the first n bytes of b are a whole field, of a listed length.
+function is_field(b, n) {
+    return n >= 4 && (b[1] in SIZE) && number_at(b, 2, 2) == SIZE[b[1]] && n >= 3 + SIZE[b[1]]
+}
+
+# The line of text that stands for the field in b.
+function field_text(b,    tag) {
+    tag = b[1]
+    if (tag == ENTRY)
+        return sprintf("%.0f ", number_at(b, 4, 4)) pins_text(number_at(b, 8, 3))
+    if (tag == LAST)
+        return sprintf("end %.0f", number_at(b, 4, 4))
+    if (NAME[tag] == "mr2")
+        return sprintf("mr2 0x%02x", b[4])
+    if (SIZE[tag] == 5)
+        return sprintf("%s %.0f %d", NAME[tag], number_at(b, 4, 4), b[8])
+    return sprintf("%s %.0f", NAME[tag], number_at(b, 4, SIZE[tag]))
+}
+
+# The first n bytes of b as they are.
+function raw_text(b, n,    i, text) {
+    text = "raw"
+    for (i = 1; i <= n; i++)
+        text = text sprintf(" %02x", b[i])
+    return text
+}

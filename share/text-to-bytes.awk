@@ -1,0 +1,185 @@
+# Text to bytes, behind form.awk. Prints every byte as \ooo when all of the text was read; if a line is wrong, nothing but reasons on standard error.
+
+BEGIN {
+    from = ENVIRON["FROM"]
+    # document 01's bench card
+    split("1250 0x1a 8192 3900000 18000/3 18000/3 21000/3 42000/3 10000/2 50000/8 7500/4 15000/4 7500/4 5500/0 130000/0 60000/0 0/4 0/10", BENCH, " ")
+    for (k = 0; k < 256; k++)
+        OCTAL[k] = sprintf("\\%03o", k)
+}
+
+{ sub(/#.*/, ""); sub(/\r$/, "") }
+NF == 0 { next }
+
+behind == "end" && $1 != "raw" {
+    bad("only raw may stand behind end")
+    next
+}
+{ word = tolower($1) }
+word == "card" || word in TAG { card_line(word); next }
+!begun { begin() }
+word == "raw" { raw_line(); next }
+word == "end" {
+    put(octal(LAST, 1) octal(SIZE[LAST], 2) octal(number($2, 4294967295, "end"), 4))
+    no_more(2)
+    behind = "end"
+    next
+}
+word ~ /^[0-9]/ { entry_line(); next }
+{ bad("unknown word " $1) }
+
+END {
+    if (!begun)
+        begin()
+    if (behind == "entry" || behind == "")
+        bad("the text ends without end")
+    if (wrong) {
+        close(complaints)
+        exit 2
+    }
+    for (k = 1; k <= lines; k++)
+        printf "%s", line[k]
+}
+
+function bad(reason) {
+    complaints = "cat 1>&2"
+    printf "%s:%d: %s\n", from, NR, reason | complaints
+    wrong = 1
+}
+
+function put(text) {
+    line[++lines] = text
+}
+
+function octal(x, count,    text) {
+    text = ""
+    while (count-- > 0) {
+        text = OCTAL[x % 256] text
+        x = int(x / 256)
+    }
+    return text
+}
+
+# The number that a word is, decimal or 0x and hexadecimal, from 0 to most.
+function number(word, most, what,    i, x) {
+    x = 0
+    if (word == "")
+        bad(what ": a number is missing")
+    else if (word ~ /^[0-9]+$/)
+        x = word + 0
+    else if (word ~ /^0[xX][0-9a-fA-F]+$/)
+        for (i = 3; i <= length(word); i++)
+            x = 16 * x + digit(substr(word, i, 1))
+    else
+        bad(what ": " word " is no number")
+    if (x > most) {
+        bad(what ": " word " is above " sprintf("%.0f", most))
+        x = 0
+    }
+    return x
+}
+
+function digit(letter) {
+    return index("0123456789abcdef", tolower(letter)) - 1
+}
+
+function no_more(words) {
+    if (NF > words)
+        bad("unknown word " $(words + 1))
+}
+
+function card_line(word,    tag, part) {
+    if (begun)
+        bad(carded ? "card values stand before all else" : "a text that begins with raw has no card")
+    else if (word != "card") {
+        if (given[word]++)
+            bad(word " is given twice")
+        tag = TAG[word]
+        set_value(tag, $2, $3)
+        no_more(SIZE[tag] == 5 ? 3 : 2)
+    } else if (carded)
+        bad("card bench stands once, before the values that differ")
+    else if (tolower($2) != "bench")
+        bad("card: the only card known by name is bench")
+    else {
+        for (tag = 1; tag <= CARD; tag++) {
+            split(BENCH[tag], part, "/")
+            set_value(tag, part[1], part[2])
+        }
+        no_more(2)
+    }
+    carded = 1
+}
+
+# A timing is a duration of 4 bytes and a floor of 1; any other value is one number as long as its field.
+function set_value(tag, first, second,    size) {
+    size = SIZE[tag] == 5 ? 4 : SIZE[tag]
+    value[tag] = octal(number(first, (size == 4 ? 4294967296 : POW[8 * size]) - 1, NAME[tag]), size)
+    if (SIZE[tag] == 5)
+        value[tag] = value[tag] octal(number(second, 255, NAME[tag] ", floor"), 1)
+}
+
+# Puts the card, before the first line that is none of it.
+function begin(    tag, missing) {
+    begun = 1
+    if (!carded && tolower($1) == "raw" && NF > 0)
+        return
+    for (tag = 1; tag <= CARD; tag++) {
+        if (!(tag in value))
+            missing = missing " " NAME[tag]
+        put(octal(tag, 1) octal(SIZE[tag], 2) value[tag])
+    }
+    if (missing != "")
+        bad("the card lacks" missing)
+}
+
+function raw_line(    i, text) {
+    for (i = 2; i <= NF; i++)
+        if ($i ~ /^[0-9a-fA-F][0-9a-fA-F]$/)
+            text = text octal(16 * digit(substr($i, 1, 1)) + digit(substr($i, 2, 1)), 1)
+        else
+            bad("raw: " $i " is no byte of two hexadecimal digits")
+    put(text)
+    if (behind != "end")
+        behind = "raw"
+}
+
+function entry_line(    stamp, name, pins) {
+    behind = "entry"
+    stamp = number($1, 4294967295, "stamp")
+    name = toupper($2)
+    if (name == "PINS") {
+        pins = number($3, 16777215, "pins")
+        no_more(3)
+    } else if (name in TAKES)
+        pins = named_pins(name)
+    else {
+        bad(name == "" ? "the command is missing" : "unknown command " $2)
+        return
+    }
+    put(octal(ENTRY, 1) octal(SIZE[ENTRY], 2) octal(stamp, 4) octal(pins, 3))
+}
+
+# The pins of the line's command: its bank, if it has one, then pairs of a word and a number. Row and column may be left out and are 0.
+function named_pins(name,    i, word, v) {
+    i = 3
+    if (TAKES[name] ~ /bank/)
+        v["bank"] = number($(i++), MOST["bank"], "bank")
+    for (; i <= NF; i += 2) {
+        word = tolower($i)
+        if (word == "bank" || index(" " TAKES[name] " ", " " word " ") == 0) {
+            bad(name " takes " (TAKES[name] == "" ? "nothing" : TAKES[name]) ", not " $i)
+            return 0
+        }
+        if (word in v)
+            bad(word " is given twice")
+        v[word] = number($(i + 1), MOST[word], word)
+    }
+    if (name ~ /^MR/ && !("ma" in v))
+        bad(name ": ma is missing")
+    if (name == "MRW" && !("op" in v))
+        bad(name ": op is missing")
+    if (v["col"] % 2 == 1)
+        bad("col: an odd column has no place on the pins")
+    return pins_of(name, v)
+}
