@@ -231,7 +231,8 @@ static bool read_card(struct card *c)
 /* Takes entries while whole ones are at hand. False: one was refused, and the verdict is out. */
 static bool entries(struct record *r, bool lines)
 {
-    const uint8_t *p = in.buf + in.at, *start = p, *end = p + have(ENTRY);
+    size_t n = have(ENTRY);
+    const uint8_t *p = in.buf + in.at, *start = p, *end = p + n;
     bool good = true;
     struct refusal no = {0, 0, 0};
     for (; end - p >= ENTRY; p += ENTRY) {

@@ -34,17 +34,20 @@ fn delay_by(lag: Lag, clocks: u64, mr2: u8) -> u64
     requires { ⌜ clocks < 2 ^ 40 ⌝ }
     ensures { λ r. ⌜ (r ≡ delayIn lag clocks mr2) × (r < 2 ^ 41) ⌝ }
 {
-    let x = card::latency_of(mr2);
-    let rl = x.rl as u64;
-    let wl = x.wl as u64;
     match lag {
         Lag::Plain => clocks,
-        Lag::Written => wl + clocks,
+        Lag::Written => {
+            let x = card::latency_of(mr2);
+            x.wl as u64 + clocks
+        }
         Lag::Turned => {
-            if rl + clocks < wl {
+            let x = card::latency_of(mr2);
+            let sum = x.rl as u64 + clocks;
+            let wl = x.wl as u64;
+            if sum < wl {
                 return 0;
             }
-            rl + clocks - wl
+            sum - wl
         }
     }
 }

@@ -1,17 +1,13 @@
--- The code's table is the rules' table, row for row, and the row that a code picks there tells what the rules say of the code.
-use Prim.Native.Nat.{ℕ, _+_, _%_, _<_}
+-- The row that a code picks in the rules' table tells what the rules say of the code.
+use Prim.Native.Nat.{ℕ, _%_}
 use mathlib.Core.Path.{_≡_, refl, ap, sym, _∙_}
 use mathlib.Core.Bool.{Bool, true, false, cond}
-use mathlib.Core.List.{List, [], _∷_, map}
-use native.Mathlib.Numerals.{add-one}
+use mathlib.Core.List.{List, [], _∷_}
 use native.Mathlib.Omega.{arith}
 use lib.Dec.{leb, eqb}
-use lib.ListN.{getD, drop, List·getD-map}
-use lib.Seq.{drop-cons}
 use Rattle.rules.specs.Bits.{bits, on}
 use Rattle.rules.specs.Registers.{Latency, latencies, atCode, rlOf, wlOf}
 use Rattle.card.specs.Rows.{rowOf, foundAt}
-use Rattle.card.specs.declared.registers.Row.{Row}
 use Rattle.card.specs.declared.registers.Found.{Found}
 use Rattle.card.specs.declared.registers.Found.the-variants.{At, Nothing}
 
@@ -49,19 +45,11 @@ pub latency-found : (v : ℕ) (f : Found) → foundAt v ≡ f → (rlIn f ≡ rl
 unfolding rlIn wlIn rlOf wlOf rowOf
 latency-found v f e = (told rlIn v f e, told (wlIn v) v f e)
 
-abbrev pub noRow : Latency
-noRow = record { code = 0; least = 0; rl = 0; wlA = 0; wlB = 0 }
-
-pub code-of : (v : ℕ) → bits v 0 4 ≡ v % 16
+code-of : (v : ℕ) → bits v 0 4 ≡ v % 16
 unfolding bits
 code-of v = omega arith
 
--- the code's table: the rules' rows in their order
-unfoldable pub rows : List Row
-rows = map rowOf latencies
-
--- the search among the rows from place i on
-pub at-from : {A : Type 0} (k : ℕ) (g : Row → A) (d : A) (i : ℕ) → i < 9
-    → atCode k (λ x. g (rowOf x)) d (drop i latencies) ≡ cond (eqb (getD rows i (rowOf noRow) .0) k) (g (getD rows i (rowOf noRow))) (atCode k (λ x. g (rowOf x)) d (drop (i + 1) latencies))
-unfolding atCode latencies rows rowOf
-at-from k g d i h = rw (add-one, drop-cons latencies i noRow h, List·getD-map rowOf latencies i noRow)
+-- the row by the code
+pub found-by : (v k : ℕ) → v % 16 ≡ k → foundAt v ≡ atCode k (λ x. At (rowOf x)) Nothing latencies
+unfolding foundAt
+found-by v k e = ap (λ (j : ℕ). atCode j (λ x. At (rowOf x)) Nothing latencies) (code-of v ∙ e)

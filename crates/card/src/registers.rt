@@ -12,32 +12,22 @@ pub enum Found {
     Nothing,
 }
 
-const ROWS: [Row; 9] = [
-    Row(0b0001, 6000, 3, 1, 1),
-    Row(0b0100, 2500, 6, 3, 3),
-    Row(0b0110, 1875, 8, 4, 4),
-    Row(0b0111, 1670, 9, 5, 5),
-    Row(0b1000, 1500, 10, 6, 8),
-    Row(0b1001, 1360, 11, 6, 9),
-    Row(0b1010, 1250, 12, 6, 9),
-    Row(0b1100, 1071, 14, 8, 11),
-    Row(0b1110, 938, 16, 8, 13),
-];
-
-// The row that OP3-0 of MR2 picks.
+// The row that OP3-0 of MR2 picks. Arms, since an array would be laid out anew at each call.
 fn find(mr2: u8) -> Found
     ensures { λ r. ⌜ r ≡ foundAt mr2 ⌝ }
 {
-    let code = mr2 % 16;
-    let mut i: usize = 0;
-    while i < 9 {
-        let row = ROWS[i];
-        if row.0 == code {
-            return Found::At(row);
-        }
-        i += 1;
+    match mr2 % 16 {
+        0b0001 => Found::At(Row(0b0001, 6000, 3, 1, 1)),
+        0b0100 => Found::At(Row(0b0100, 2500, 6, 3, 3)),
+        0b0110 => Found::At(Row(0b0110, 1875, 8, 4, 4)),
+        0b0111 => Found::At(Row(0b0111, 1670, 9, 5, 5)),
+        0b1000 => Found::At(Row(0b1000, 1500, 10, 6, 8)),
+        0b1001 => Found::At(Row(0b1001, 1360, 11, 6, 9)),
+        0b1010 => Found::At(Row(0b1010, 1250, 12, 6, 9)),
+        0b1100 => Found::At(Row(0b1100, 1071, 14, 8, 11)),
+        0b1110 => Found::At(Row(0b1110, 938, 16, 8, 13)),
+        _ => Found::Nothing,
     }
-    Found::Nothing
 }
 
 // Whether OP3-0 of MR2 is a code whose least period does not exceed the card's.

@@ -6,6 +6,10 @@ pub mod Fronts
 pub mod Taking
 pub mod Advances
 pub mod Lining
+pub mod LinesIn
+pub mod Prefix
+pub mod Walks
+pub mod Leads
 pub mod Hearing
 pub mod Arrays
 pub mod Overflow
@@ -16,10 +20,9 @@ pub mod StandsEnd
 pub mod Moves
 pub mod Agrees
 pub mod Room
+pub mod Ranging
 pub mod Whole
 pub mod Demands
-pub mod Prefix
-pub mod Walks
 pub mod Outcome
 pub mod Chunks
 pub mod Near

@@ -1,11 +1,12 @@
 -- The line of a field that was taken.
-use Prim.Native.Nat.{ℕ, _≤_}
-use mathlib.Core.Path.{_≡_, refl}
+use Prim.Native.Nat.{ℕ, _+_, _-_, _≤_}
+use mathlib.Core.Path.{_≡_, refl, sym}
 use mathlib.Core.Bool.{Bool, true, false, _||_}
-use mathlib.Core.List.{List, []}
+use mathlib.Core.List.{List, [], _++_, append-assoc, append-nil}
 use native.Mathlib.Omega.{arith}
 use lib.Dec.{leb}
-use lib.ListN.{length, getD, take, drop}
+use lib.ListN.{length, getD, take, drop, length-append, length-drop, drop-of-length-le}
+use lib.Seq.{take-at, drop-at, drop-drop}
 use borrow.Author.Tests.{eq-eqb, ne-eqb, leb-true}
 use Rattle.rules.specs.Commands.{Command}
 use Rattle.rules.specs.Pins.{decode}
@@ -19,8 +20,34 @@ use Rattle.judge.specs.Heard.{fieldLine}
 use Rattle.judge.specs.Parts.{fieldIn, lineIn, Lined}
 use Rattle.judge.proofs.Taking.{entry-in}
 
+-- ---- lines at the start of the lent room
+pub lined-nothing : (old : List ℕ) → Lined [] old old 0
+lined-nothing old = record { count = refl; fits = omega arith; memory = refl }
+
+module _ {text old new : List ℕ} {wrote : ℕ} (l : Lined text old new wrote) where
+  pub lined-length : length new ≡ length old
+  lined-length = let c = l .count in let f = l .fits in rw (l .memory, length-append, length-drop) (omega arith)
+
+  -- more of them behind those that are there
+  module _ {line part : List ℕ} {r : ℕ} (m : Lined line (drop wrote new) part r) where
+    more-fits : wrote + r ≤ length old
+    more-fits =
+        let a : r ≤ length old - wrote = rw (length-drop, lined-length) at (m .fits) in
+        let b = l .fits in
+        omega arith
+
+    more-memory : take wrote new ++ (part ++ drop (length new - wrote) (drop wrote new)) ≡ (text ++ line) ++ drop (length (text ++ line)) old
+    more-memory =
+        let z : drop (length new - wrote) (drop wrote new) ≡ [] = drop-of-length-le (drop wrote new) {i = length new - wrote} (rw length-drop (omega arith)) in
+        let a : take wrote new ≡ text = rw (l .memory) (take-at text (drop (length text) old) wrote (sym (l .count))) in
+        let b : drop wrote new ≡ drop (length text) old = rw (l .memory) (drop-at text (drop (length text) old) wrote (sym (l .count))) in
+        rw (z, append-nil, a, m .memory, b, drop-drop, length-append, append-assoc)
+
+    pub lined-more : Lined (text ++ line) old (take wrote new ++ (part ++ drop (length new - wrote) (drop wrote new))) (wrote + r)
+    lined-more = record { count = rw (length-append, ← l .count, ← m .count); fits = more-fits; memory = more-memory }
+
 no-line : (line old : List ℕ) → line ≡ [] → Lined line old old 0
-no-line line old e = rw e (record { count = refl; fits = omega arith; memory = refl })
+no-line line old e = rw e (lined-nothing old)
 
 pub lined-quiet : (q : Bool) (st : State) (bs old : List ℕ) → q ≡ true → Lined (lineIn q st bs) old old 0
 unfolding lineIn

@@ -60,11 +60,13 @@ number-small (b ∷ v) i x h l =
     let e : i + suc (length v) ≡ (i + 1) + length v = omega arith in
     rw e (number-small v (i + 1) (256 * x + b) (h .1) (one-more i x b l (h .0)))
 
+pub four-small : (v : List ℕ) → Bytes v → number (take 4 v) < 2 ^ 32
+unfolding number
+four-small v h = four-fit (0 + length (take 4 v)) (number (take 4 v)) (rw length-take (omega arith)) (number-small (take 4 v) 0 0 (bytes-take 4 v h) (omega arith))
+
 pub stamp-small : (f : Field) → Bytes (bytesOf f) → entryOf f .stamp < 2 ^ 32
-unfolding Every bytesOf entryOf number
-stamp-small f h =
-    let v = take 4 (f .value) in
-    four-fit (0 + length v) (number v) (rw length-take (omega arith)) (number-small v 0 0 (bytes-take 4 (f .value) (h .1 .1 .1)) (omega arith))
+unfolding Every bytesOf entryOf
+stamp-small f h = four-small (f .value) (h .1 .1 .1)
 
 -- ---- a field has at most ten bytes
 listed-small : (t : ℕ) → reading.sizeOf t ≤ 7

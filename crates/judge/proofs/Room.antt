@@ -58,7 +58,7 @@ bank-short : (b : Bool) (x : ℕ) → x ≤ 7 → length (cond b (decimal x) (45
 bank-short true x h = short 0 x (omega arith)
 bank-short false x h = omega arith
 
-entry-short : (e : Taken) (n : ℕ) → e .stamp < 2 ^ 32 → bankAt (e .cmd) n ≤ 7 → length (entryLine e n) ≤ 64
+pub entry-short : (e : Taken) (n : ℕ) → e .stamp < 2 ^ 32 → bankAt (e .cmd) n ≤ 7 → length (entryLine e n) ≤ 64
 unfolding entryLine
 entry-short e n h b =
     simp length-append

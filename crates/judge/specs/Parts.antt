@@ -1,13 +1,16 @@
 -- The parts of one field's taking: the field that some bytes are, its head, what an answer refuses with, the state behind it; and its line.
-use Prim.Native.Nat.{ℕ, _+_, _≤_}
+use Prim.Native.Nat.{ℕ, zero, suc, _+_, _-_, _≤_}
 use mathlib.Core.Path.{_≡_}
 use mathlib.Core.Bool.{Bool, cond}
 use mathlib.Core.List.{List, [], _++_}
 use mathlib.Core.Option.{Option, none, some}
-use lib.ListN.{length, getD, drop}
+use lib.ListN.{length, getD, take, drop}
 use Rattle.rules.specs.Commands.{Command, NOP, is}
 use Rattle.rules.specs.Past.{isCounted}
+use Rattle.rules.specs.Pins.{decode}
+use Rattle.rules.specs.Entries as entries
 use Rattle.rules.specs.Form as form
+use Rattle.rules.specs.Lines.{entryLine}
 use Rattle.rules.specs.Checks.{Refusal, refusal}
 use Rattle.ledger.specs.declared.Ledger.{Ledger}
 use Rattle.bank.specs.declared.Record.{Record}
@@ -19,7 +22,9 @@ use Rattle.judge.specs.declared.heads.Head.the-variants.{Whole, Cut, Bad
 use Rattle.judge.specs.declared.told.Told.{Told}
 use Rattle.judge.specs.declared.told.Told.the-variants.{Good, Bad}
 use Rattle.judge.specs.Took.{wrapped, recordClosed}
-use Rattle.judge.specs.Heard.{fieldLine}
+use Rattle.fast.specs.declared.Ran.{Ran}
+use Rattle.judge.specs.declared.leaps.Ahead.{Ahead}
+use Rattle.judge.specs.Heard.{fieldLine, behind, heardOf}
 
 unfoldable pub fieldIn : List ℕ → form.Field
 fieldIn bs = record { tag = getD bs 0 0; high = getD bs 1 0; low = getD bs 2 0; value = drop 3 bs }
@@ -59,11 +64,45 @@ endOn st g = record {
 unfoldable pub lineIn : (quiet : Bool) → State → List ℕ → List ℕ
 lineIn q st bs = cond q [] (fieldLine st (fieldIn bs))
 
+-- the lines of so many entries of ten bytes each, at one round counter
+unfoldable pub lineAt : (counter : ℕ) → List ℕ → List ℕ
+lineAt n bs = entryLine (record { stamp = form.number (take 4 (drop 3 bs)); cmd = entries.commandOf (decode (form.number (take 3 (drop 7 bs)))) }) n
+
+unfoldable pub linesAt : (count counter : ℕ) → List ℕ → List ℕ
+linesAt zero n bs = []
+linesAt (suc k) n bs = lineAt n bs ++ linesAt k n (drop 10 bs)
+
+unfoldable pub linesIf : (quiet : Bool) → (count counter : ℕ) → List ℕ → List ℕ
+linesIf q k n bs = cond q [] (linesAt k n bs)
+
 -- the line at the start of the lent room, and how many bytes it has
 pub record Lined (line old new : List ℕ) (r : ℕ) : Type 0 where
   pub count : r ≡ length line
   pub fits : r ≤ length old
   pub memory : new ≡ line ++ drop (length line) old
+
+-- ---- some fields at once
+-- what is heard from here on is these bytes and lines, and then what is heard from this state
+abbrev pub Leads : (quiet : Bool) → (room : ℕ) → State → List ℕ → (n : ℕ) → (lines : List ℕ) → State → Type 0
+Leads q room st bs n lines next = heardOf q room st bs ≡ behind n lines (heardOf q (room - length lines) next (drop n bs))
+
+-- the state behind a quick run, which counts no refresh
+unfoldable pub stateWith : State → Ran → State
+stateWith st r = record {
+  read = st .read;
+  rec = r .rec;
+  commands = wrapped (st .commands + r .commands);
+  refreshes = st .refreshes;
+  offset = wrapped (st .offset + r .used);
+}
+
+-- so many bytes further on, with their lines written
+pub record Leapt (q : Bool) (st : State) (bs old new : List ℕ) (r : Ahead) : Type 0 where
+  pub lines : List ℕ
+  pub leads : Leads q (length old) st bs (r .used) lines (r .state)
+  pub put : Lined lines old new (r .wrote)
+  pub inside : r .used ≤ length bs
+  pub card : r .state .rec .card ≡ st .rec .card
 
 abbrev pub fedOf : What → (used wrote : ℕ) → State → Fed
 fedOf w u n st = record { what = w; used = u; wrote = n; state = st }

@@ -14,6 +14,7 @@ use crate::Verdict;
 use crate::What;
 use crate::fields;
 use crate::fields::Move;
+use crate::leaps;
 use crate::writing;
 use card::Card;
 use card::Delays;
@@ -62,6 +63,10 @@ pub fn feed(state: State, bytes: &[u8], out: &mut [u8], quiet: bool) -> Fed
     let mut used: usize = 0;
     let mut wrote: usize = 0;
     loop {
+        let ahead = leaps::leap(cur, delays, &bytes[used..], &mut out[wrote..], quiet);
+        used += ahead.used;
+        wrote += ahead.wrote;
+        cur = ahead.state;
         let room = out.len() - wrote;
         if !(quiet | (64 <= room)) {
             return fed(What::Full, used, wrote, cur);

@@ -3,6 +3,7 @@ mod counts;
 mod feeding;
 mod fields;
 mod heads;
+mod leaps;
 mod numbers;
 mod told;
 mod verdicts;

@@ -8,8 +8,9 @@ use Rattle.bounds.proofs.delays.delay_by.Tie as tie
 returns : tie.Need-returns
 unfolding delayIn
 returns c =
-    let x = c .before .before .before .before .before .latency-of .ensures in
-    rw (c .before .enum-told3 .given .1) (omega (arith, x .0, x .1), omega arith)
+    let l = c .before .before .before in
+    let x = l .latency-of2 .ensures in
+    rw (l .before .enum-told3 .given .1) (omega (arith, x .0, x .1), omega arith)
 
 returns-2 : tie.Need-returns-2
 unfolding delayIn
@@ -18,30 +19,32 @@ returns-2 c = rw (c .enum-told .given .1) (refl, omega arith)
 returns-3 : tie.Need-returns-3
 unfolding delayIn
 returns-3 c =
-    let x = c .before .before .before .before .latency-of .ensures in
-    rw (c .enum-told2 .given .1) (omega (arith, x .1), omega arith)
+    let l = c .before in
+    let x = l .latency-of .ensures in
+    rw (l .before .enum-told2 .given .1) (omega (arith, x .1), omega arith)
 
 returns-4 : tie.Need-returns-4
 unfolding delayIn
 returns-4 c =
-    let x = c .before .before .before .before .before .latency-of .ensures in
-    rw (c .before .enum-told3 .given .1) (omega (arith, x .0, x .1), omega arith)
+    let l = c .before .before .before in
+    let x = l .latency-of2 .ensures in
+    rw (l .before .enum-told3 .given .1) (omega (arith, x .0, x .1), omega arith)
 
 pub delay-by-spec : {M : Type 1} → statement M
 delay-by-spec =
     tie.close
     (tie.spec
+    (λ c. search needs)
+    (λ c. search needs)
     (λ c κs. search needs)
     (λ c. search needs)
     (λ c. search needs)
     (λ c. search needs)
-    (λ c. search needs)
+    (λ c κs. search needs)
     (λ c. search needs)
     (λ c. search needs)
     (λ c. search needs)
     returns
-    (λ c. search needs)
-    (λ c. search needs)
     returns-2
     returns-3
     returns-4)

@@ -1,0 +1,2 @@
+-- Laws of a call of the judge without lines.
+pub mod Feeding
