@@ -11,6 +11,7 @@ use Rattle.rules.specs.Units.{Delays, delaysOf}
 use Rattle.rules.specs.Form as form
 use Rattle.card.specs.Values.{cardOf, shortened}
 use Rattle.card.specs.declared.Card.{Card}
+use Rattle.lines.specs.Written.{Lined}
 use Rattle.judge.specs.declared.State.{State}
 use Rattle.judge.specs.declared.Verdict.{Verdict}
 use Rattle.judge.specs.declared.What.{What}
@@ -21,7 +22,7 @@ use Rattle.judge.specs.declared.fields.Move.the-variants.{On, Wait, End}
 use Rattle.judge.specs.declared.fields.Took.{Took}
 use Rattle.judge.specs.Took.{asRead, tookOf}
 use Rattle.judge.specs.Heard.{heard, behind, heardOf, FedAs, overAt, finishedOf}
-use Rattle.judge.specs.Parts.{lineIn, Lined, Leads, Leapt, fedOf}
+use Rattle.judge.specs.Parts.{lineIn, Leads, Leapt, fedOf}
 use Rattle.judge.proofs.Taking.{rest, whole-asks}
 use Rattle.judge.proofs.Turns.{hasRoom, lineIf}
 use Rattle.judge.proofs.Walks.{stops-full, stops-more, stops-over, only}

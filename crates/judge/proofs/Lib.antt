@@ -1,12 +1,10 @@
 -- Laws of the judge: of its functions; a state that stands for what was read, against the rules; the whole file and the demands; any way of cutting it; and that every promise
 -- determines its answer.
 pub mod Turns
-pub mod Bytes
 pub mod Fronts
 pub mod Taking
 pub mod Advances
 pub mod Lining
-pub mod LinesIn
 pub mod Prefix
 pub mod Walks
 pub mod Leads

@@ -1,5 +1,5 @@
--- The line of a field that was taken.
-use Prim.Native.Nat.{ℕ, _+_, _-_, _≤_}
+-- The line of a field that was taken, and those of many.
+use Prim.Native.Nat.{ℕ, _+_, _*_, _-_, _≤_}
 use mathlib.Core.Path.{_≡_, refl, sym}
 use mathlib.Core.Bool.{Bool, true, false, _||_}
 use mathlib.Core.List.{List, [], _++_, append-assoc, append-nil}
@@ -14,10 +14,11 @@ use Rattle.rules.specs.Entries as entries
 use Rattle.rules.specs.Form as form
 use Rattle.rules.specs.Lent as lent
 use Rattle.rules.specs.Lines.{entryLine}
-use Rattle.lines.specs.Written.{Written}
+use Rattle.lines.specs.Written.{Written, Lined}
+use Rattle.lines.specs.Runs.{linesAt, lineCount}
 use Rattle.judge.specs.declared.State.{State}
 use Rattle.judge.specs.Heard.{fieldLine}
-use Rattle.judge.specs.Parts.{fieldIn, lineIn, Lined}
+use Rattle.judge.specs.Parts.{fieldIn, lineIn, linesIf}
 use Rattle.judge.proofs.Taking.{entry-in}
 
 -- ---- lines at the start of the lent room
@@ -83,3 +84,15 @@ lined-entry q st bs old new r t p c e room f n te pe ce w =
     let m = w .memory in
     let s = w .short in
     rw (← entry-line q st bs t p c e f n te pe ce) (record { count = rw l at a; fits = omega arith; memory = rw l at m })
+
+-- ---- the lines of many
+pub lines-quiet : (q : Bool) (k n : ℕ) (bs old : List ℕ) → q ≡ true → Lined (linesIf q k n bs) old old 0
+unfolding linesIf
+lines-quiet q k n bs old e = rw e (lined-nothing old)
+
+pub lines-all : (q : Bool) (k n : ℕ) (bs old new : List ℕ) (r : ℕ) → q ≡ false → 10 * k ≤ length bs → 24 * k ≤ length old - 40
+    → Lined (linesAt (lineCount k (length bs) (length old)) n bs) old new r → Lined (linesIf q k n bs) old new r
+unfolding linesIf
+lines-all q k n bs old new r e h room l =
+    let all : lineCount k (length bs) (length old) ≡ k = omega arith in
+    rw e (rw all at l)

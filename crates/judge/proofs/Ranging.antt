@@ -40,12 +40,14 @@ use Rattle.fast.specs.declared.waits.Waits.{Waits}
 use Rattle.fast.specs.Ready.{hotOf, deadlineOf, laneOf, waitsOf, readyBy, standsOf, readyOf}
 use Rattle.fast.specs.Values.{isEntry, frontAs, frontOf, goesOn, countOf, ran, behind, ranOf}
 use Rattle.fast.proofs.Taken.{ready-taken}
+use Rattle.lines.specs.Written.{Lined}
+use Rattle.lines.specs.Runs.{lineAt, linesAt}
 use Rattle.judge.specs.declared.State.{State}
 use Rattle.judge.specs.declared.fields.Move.the-variants.{On}
 use Rattle.judge.specs.declared.fields.Took.{Took}
 use Rattle.judge.specs.Took.{tookAs, wrapped, entryAfter, entryRefused, entryTook, fieldTook, headTook, asRead, tookOf}
 use Rattle.judge.specs.Heard.{fieldLine, headLine, lineOf}
-use Rattle.judge.specs.Parts.{fieldIn, lineAt, linesAt, linesIf, Lined, Leads, stateWith, Leapt}
+use Rattle.judge.specs.Parts.{fieldIn, linesIf, Leads, stateWith, Leapt}
 use Rattle.judge.proofs.Turns.{hasRoom, lineIf}
 use Rattle.judge.proofs.Fronts.{Fronted, head-is, front, may-come-as}
 use Rattle.judge.proofs.Taking.{size-in, entry-in}
@@ -237,7 +239,7 @@ module _ (st : State) (bs : List ℕ) (d : Delays) (read : st .read ≡ 18) (fit
   unfolding lineOf headLine fieldLine lineAt
   line-here = rw (fronted .is, headLine, fieldLine, eq-eqb (field .tag) 32 tag-is, entry-is, command-is)
 
-  line-short : length (lineAt (st .rec .counter) bs) ≤ 64
+  line-short : length (lineAt (st .rec .counter) bs) ≤ 24
   unfolding lineAt
   line-short =
       entry-short (record { stamp = stamp; cmd = entries.commandOf (decode pins) }) (st .rec .counter) (four-small (drop 3 bs) (bytes-drop 3 bs b))
@@ -299,11 +301,11 @@ unfolding linesIf linesAt
 one-line true st bs k n m e f = refl
 one-line false st bs k n m e f = rw (e, f)
 
-line-if-short : (q : Bool) (st : State) (bs : List ℕ) (n : ℕ) → lineOf st bs ≡ lineAt n bs → length (lineAt n bs) ≤ 64 → length (lineIf q st bs) ≤ 64
+line-if-short : (q : Bool) (st : State) (bs : List ℕ) (n : ℕ) → lineOf st bs ≡ lineAt n bs → length (lineAt n bs) ≤ 24 → length (lineIf q st bs) ≤ 24
 line-if-short true st bs n e h = omega arith
 line-if-short false st bs n e h = rw e h
 
-has-room : (q : Bool) (room k : ℕ) → (q ≡ false → 64 * suc k ≤ room) → hasRoom q room ≡ true
+has-room : (q : Bool) (room k : ℕ) → (q ≡ false → 24 * suc k ≤ room - 40) → hasRoom q room ≡ true
 has-room true room k h = refl
 has-room false room k h = let l = h refl in le-leb 64 room (omega arith)
 
@@ -320,7 +322,7 @@ add-up st rec u m r = λ i. record {
 }
 
 module _ (k : ℕ) (q : Bool) (room : ℕ) (st : State) (bs : List ℕ) (d : Delays) (read : st .read ≡ 18) (fit : clocksOf d ≡ shortened (delaysOf (cardOf (st .rec .card))))
-    (b : Bytes bs) (small : Small st) (wide : q ≡ false → 64 * suc k ≤ room) (go : goesOn d (st .rec) (frontOf bs) ≡ true) where
+    (b : Bytes bs) (small : Small st) (wide : q ≡ false → 24 * suc k ≤ room - 40) (go : goesOn d (st .rec) (frontOf bs) ≡ true) where
   abbrev then : State
   then = next st bs d read fit b small go
 
@@ -329,7 +331,7 @@ module _ (k : ℕ) (q : Bool) (room : ℕ) (st : State) (bs : List ℕ) (d : Del
       let t = took-here st bs d read fit b small go in
       rw (ap (λ (x : Took). x .state) t) at (leads-on q room st bs 10 (has-room q room k wide) (ap (λ (x : Took). x .how) t))
 
-  still-wide : q ≡ false → 64 * k ≤ room - length (lineIf q st bs)
+  still-wide : q ≡ false → 24 * k ≤ room - length (lineIf q st bs) - 40
   still-wide e =
       let h = wide e in
       let s = line-if-short q st bs (st .rec .counter) (line-here st bs d read fit b small go) (line-short st bs d read fit b small go) in
@@ -357,7 +359,7 @@ module _ (k : ℕ) (q : Bool) (room : ℕ) (st : State) (bs : List ℕ) (d : Del
       }
 
 module _ (k : ℕ) (q : Bool) (room : ℕ) (st : State) (bs : List ℕ) (d : Delays) (read : st .read ≡ 18) (fit : clocksOf d ≡ shortened (delaysOf (cardOf (st .rec .card))))
-    (b : Bytes bs) (small : Small st) (wide : q ≡ false → 64 * suc k ≤ room)
+    (b : Bytes bs) (small : Small st) (wide : q ≡ false → 24 * suc k ≤ room - 40)
     (rest : (go : goesOn d (st .rec) (frontOf bs) ≡ true) → let then = next st bs d read fit b small go in
     Ranged q (room - length (lineIf q st bs)) then (drop 10 bs) k (ranOf k d (then .rec) (drop 10 bs))) where
   ranged-by : (x : Bool) → goesOn d (st .rec) (frontOf bs) ≡ x →
@@ -370,7 +372,7 @@ module _ (k : ℕ) (q : Bool) (room : ℕ) (st : State) (bs : List ℕ) (d : Del
       (ranged-on k q room st bs d read fit b small wide go (ranOf k d (recordWith (st .rec) (here st bs d read fit b small go)) (drop 10 bs)) (unfold stateWith in rest go))
 
 pub ranged : (k : ℕ) (q : Bool) (room : ℕ) (st : State) (bs : List ℕ) (d : Delays) → st .read ≡ 18 → clocksOf d ≡ shortened (delaysOf (cardOf (st .rec .card))) → Bytes bs →
-    Small st → (q ≡ false → 64 * k ≤ room) → Ranged q room st bs k (ranOf k d (st .rec) bs)
+    Small st → (q ≡ false → 24 * k ≤ room - 40) → Ranged q room st bs k (ranOf k d (st .rec) bs)
 unfolding ranOf
 ranged zero q room st bs d read fit b small wide = ranged-nowhere q room st bs 0 small
 ranged (suc k) q room st bs d read fit b small wide =
@@ -386,7 +388,7 @@ module _ (q : Bool) (st : State) (bs old : List ℕ) where
   leapt-nowhere = record { lines = []; leads = leads-nowhere q (length old) st bs; put = lined-nothing old; inside = omega arith; card = refl }
 
   module _ {most : ℕ} {r : Ran} (g : Ranged q (length old) st bs most r) where
-    pub asks : (q ≡ false → 64 * most ≤ length old) → (10 * (r .used / 10) ≤ length bs) × (q ≡ false → 64 * (r .used / 10) ≤ length old)
+    pub asks : (q ≡ false → 24 * most ≤ length old - 40) → (10 * (r .used / 10) ≤ length bs) × (q ≡ false → 24 * (r .used / 10) ≤ length old - 40)
     asks h =
         let u = g .used in
         let f = g .few in

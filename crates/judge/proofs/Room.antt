@@ -58,7 +58,7 @@ bank-short : (b : Bool) (x : ℕ) → x ≤ 7 → length (cond b (decimal x) (45
 bank-short true x h = short 0 x (omega arith)
 bank-short false x h = omega arith
 
-pub entry-short : (e : Taken) (n : ℕ) → e .stamp < 2 ^ 32 → bankAt (e .cmd) n ≤ 7 → length (entryLine e n) ≤ 64
+pub entry-short : (e : Taken) (n : ℕ) → e .stamp < 2 ^ 32 → bankAt (e .cmd) n ≤ 7 → length (entryLine e n) ≤ 24
 unfolding entryLine
 entry-short e n h b =
     simp length-append
@@ -81,7 +81,7 @@ module _ {st : State} {fs : List Field} {past : Past} {at : ℕ} (s : Stands st 
       here = record { stamp = entryOf f .stamp; cmd = commandIn (lentOf (st .rec)) (entryOf f) }
 
       go : (x : Bool) → length (cond x (entryLine here (st .rec .counter)) []) ≤ 64
-      go true = entry-short here (st .rec .counter) (stamp-small f b) (bank-low (here .cmd) (st .rec .counter) counter (bank-by (entryOf f .pins) _ refl))
+      go true = omega (arith, entry-short here (st .rec .counter) (stamp-small f b) (bank-low (here .cmd) (st .rec .counter) counter (bank-by (entryOf f .pins) _ refl)))
       go false = omega arith
 
   pub line-short : (bs : List ℕ) → Bytes bs → length (lineOf st bs) ≤ 64

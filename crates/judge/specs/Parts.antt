@@ -10,8 +10,9 @@ use Rattle.rules.specs.Past.{isCounted}
 use Rattle.rules.specs.Pins.{decode}
 use Rattle.rules.specs.Entries as entries
 use Rattle.rules.specs.Form as form
-use Rattle.rules.specs.Lines.{entryLine}
 use Rattle.rules.specs.Checks.{Refusal, refusal}
+use Rattle.lines.specs.Written.{Lined}
+use Rattle.lines.specs.Runs.{linesAt}
 use Rattle.ledger.specs.declared.Ledger.{Ledger}
 use Rattle.bank.specs.declared.Record.{Record}
 use Rattle.judge.specs.declared.State.{State}
@@ -64,22 +65,8 @@ endOn st g = record {
 unfoldable pub lineIn : (quiet : Bool) → State → List ℕ → List ℕ
 lineIn q st bs = cond q [] (fieldLine st (fieldIn bs))
 
--- the lines of so many entries of ten bytes each, at one round counter
-unfoldable pub lineAt : (counter : ℕ) → List ℕ → List ℕ
-lineAt n bs = entryLine (record { stamp = form.number (take 4 (drop 3 bs)); cmd = entries.commandOf (decode (form.number (take 3 (drop 7 bs)))) }) n
-
-unfoldable pub linesAt : (count counter : ℕ) → List ℕ → List ℕ
-linesAt zero n bs = []
-linesAt (suc k) n bs = lineAt n bs ++ linesAt k n (drop 10 bs)
-
 unfoldable pub linesIf : (quiet : Bool) → (count counter : ℕ) → List ℕ → List ℕ
 linesIf q k n bs = cond q [] (linesAt k n bs)
-
--- the line at the start of the lent room, and how many bytes it has
-pub record Lined (line old new : List ℕ) (r : ℕ) : Type 0 where
-  pub count : r ≡ length line
-  pub fits : r ≤ length old
-  pub memory : new ≡ line ++ drop (length line) old
 
 -- ---- some fields at once
 -- what is heard from here on is these bytes and lines, and then what is heard from this state

@@ -1,7 +1,7 @@
 // The commonest entries, as many at a time as the quick run takes.
 ghost use mathlib.Core.Path.{_≡_};
 ghost use mathlib.Core.Bool.{false};
-ghost use Prim.Native.Nat.{_*_, _≤_};
+ghost use Prim.Native.Nat.{_*_, _-_, _≤_};
 ghost use Rattle.rules.specs.Units.{delaysOf};
 ghost use Rattle.card.specs.Values.{cardOf, clocksOf, shortened};
 ghost use Rattle.judge.specs.Parts.{Leapt, stateWith};
@@ -30,14 +30,17 @@ fn state_with(state: State, ran: Ran) -> State
     }
 }
 
-// How many entries are taken at most, so that each has 64 bytes of room for its line.
+// How many entries are taken at most, so that each has room for its line, which has 24 bytes at most, and the last has 64 bytes of room.
 fn most(quiet: bool, size: usize, room: usize) -> usize
-    ensures { λ r. ⌜ (quiet ≡ false → 64 * r ≤ room) ⌝ }
+    ensures { λ r. ⌜ (quiet ≡ false → 24 * r ≤ room - 40) ⌝ }
 {
     if quiet {
         return size;
     }
-    room / 64
+    if room < 40 {
+        return 0;
+    }
+    (room - 40) / 24
 }
 
 // None where the card is not whole yet, or behind the end field.

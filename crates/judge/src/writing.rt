@@ -5,7 +5,8 @@ ghost use Prim.Native.Nat.{_*_, _-_, _≤_};
 ghost use lib.Dec.{leb};
 ghost use lib.ListN.{length, getD};
 ghost use Rattle.rules.specs.Form as form;
-ghost use Rattle.judge.specs.Parts.{lineIn, linesIf, Lined};
+ghost use Rattle.lines.specs.Written.{Lined};
+ghost use Rattle.judge.specs.Parts.{lineIn, linesIf};
 use crate::State;
 use crate::counts;
 use crate::numbers;
@@ -28,24 +29,11 @@ pub fn put_line(state: State, bytes: &[u8], out: &mut [u8], quiet: bool) -> usiz
 
 // The lines of so many entries, one behind the other, at a round counter that stands for all of them. None are written where the caller is quiet.
 pub fn put_lines(counter: u8, bytes: &[u8], count: usize, out: &mut [u8], quiet: bool) -> usize
-    requires { ⌜ (10 * count ≤ length (now bytes)) × (quiet ≡ false → 64 * count ≤ length (now out)) ⌝ }
+    requires { ⌜ (10 * count ≤ length (now bytes)) × (quiet ≡ false → 24 * count ≤ length (now out) - 40) ⌝ }
     ensures { λ r. ⌜ Lined (linesIf quiet count counter (now (bytes .entry))) (now (out .entry)) (now (out .exit)) r ⌝ }
 {
     if quiet {
         return 0;
     }
-    let mut wrote: usize = 0;
-    let mut i: usize = 0;
-    while i < count {
-        let command = counts::command_on(numbers::three(bytes, 10 * i + 7));
-        let line = lines::entry_line(
-            &mut out[wrote..],
-            numbers::four(bytes, 10 * i + 3),
-            command,
-            counter,
-        );
-        wrote += line;
-        i += 1;
-    }
-    wrote
+    lines::entry_lines(out, bytes, count, counter)
 }

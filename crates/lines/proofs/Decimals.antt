@@ -3,13 +3,14 @@ use Prim.Native.Nat.{ℕ, zero, suc, _+_, _-_, _/_, _%_, _^_, _≤_, _<_}
 use mathlib.Core.Path.{_≡_, ap, _∙_}
 use mathlib.Core.Bool.{true, false}
 use mathlib.Core.Logic.{⊎-elim}
-use mathlib.Core.List.{[], _∷_, _++_}
+use mathlib.Core.List.{[], _∷_, _++_, append-assoc}
 use native.Mathlib.Omega.{arith}
 use lib.Dec.{ltb}
 use lib.ListN.{length, length-append}
 use borrow.Author.Tests.{lt-ltb, le-ltb}
 use Rattle.rules.specs.Lines.{digits, decimal, signed}
 use Rattle.lines.specs.Parts.{owedPart}
+use Rattle.lines.specs.Quick.{lastFour}
 use Rattle.rules.proofs.Tests.{lt-cases}
 
 below-ten : (k x : ℕ) → x < 10 → digits (suc k) x ≡ (48 + x) ∷ []
@@ -52,6 +53,15 @@ short (suc k) x h =
     ⊎-elim (λ (p : (x < 10) × (ltb x 10 ≡ true)). rw (one-digit x (p .0)) (omega arith))
     (λ (p : (10 ≤ x) × (ltb x 10 ≡ false)). omega (arith, one-more x (p .0), short k (x / 10) (omega arith)))
     (lt-cases x 10)
+
+-- the last four digits, behind the others
+pub four-more : (x : ℕ) → 10000 ≤ x → decimal x ≡ decimal (x / 10000) ++ lastFour x
+four-more x h =
+    let a : x / 10 / 10 ≡ x / 100 = omega arith in
+    let b : x / 100 / 10 ≡ x / 1000 = omega arith in
+    let c : x / 1000 / 10 ≡ x / 10000 = omega arith in
+    rw (more-digits x (omega arith), more-digits (x / 10) (omega arith), a, more-digits (x / 100) (omega arith), b, more-digits (x / 1000) (omega arith), c)
+    (simp append-assoc)
 
 -- ---- the ledger, from the number that has 8 added
 pub owed-below : (o : ℕ) → o < 8 → owedPart o ≡ 32 ∷ 45 ∷ decimal (8 - o)

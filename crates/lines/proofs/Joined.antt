@@ -18,6 +18,10 @@ pub entry-joined : (e : Taken) (n : ℕ) → decimal (e .stamp) ++ (namePart (e 
 unfolding entryLine
 entry-joined e n = rw (← append-assoc (decimal (e .stamp)) (namePart (e .cmd)) (bankPart (e .cmd) n))
 
+-- with the name and the bank as one text
+pub quick-joined : (e : Taken) (n : ℕ) (tail : List ℕ) → tail ≡ namePart (e .cmd) ++ bankPart (e .cmd) n → decimal (e .stamp) ++ tail ++ (10 ∷ []) ≡ entryLine e n
+quick-joined e n tail h = rw h (entry-joined e n)
+
 pub accepted-joined : (m n o : ℕ)
     → acceptedWord ++ decimal m ++ (32 ∷ decimal n) ++ owedPart o ++ (10 ∷ []) ≡ verdictLine (accepted m n (subℕ o 8))
 unfolding verdictLine

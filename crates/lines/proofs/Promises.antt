@@ -1,7 +1,8 @@
 -- The promise of each public function determines its answer and what it leaves in the slice.
 use Rattle.rules.proofs.Determined.{Promise, Determined, determined, fact-of}
-use Rattle.lines.proofs.Puts.{one-written}
+use Rattle.lines.proofs.Puts.{one-written, one-lined}
 use Rattle.lines.proofs.entries.entry_line as entry-line
+use Rattle.lines.proofs.runs.entry_lines as entry-lines
 use Rattle.lines.proofs.verdicts.accepted_line as accepted-line
 use Rattle.lines.proofs.verdicts.refused_line as refused-line
 
@@ -12,6 +13,14 @@ pub entry-line-determined : Determined entry-line.ended entry-line-says
 entry-line-determined =
     determined entry-line.ended entry-line-says (λ κs a r e. fact-of _)
     (λ κs a r r′ ws ws′ p p′. let one = one-written p p′ in (one .0, λ i. (one .1 i, (tt, (tt, (tt, tt))))))
+
+abbrev entry-lines-says : Promise entry-lines.ended
+entry-lines-says w = entry-lines.clauses (w .𝓤) (w .H) (w .𝓖 .A) (w .𝓜 .mem) (w .𝓡 .run)
+
+pub entry-lines-determined : Determined entry-lines.ended entry-lines-says
+entry-lines-determined =
+    determined entry-lines.ended entry-lines-says (λ κs a r e. fact-of _)
+    (λ κs a r r′ ws ws′ p p′. let one = one-lined p p′ in (one .0, λ i. (one .1 i, (tt, (tt, (tt, tt))))))
 
 abbrev accepted-line-says : Promise accepted-line.ended
 accepted-line-says w = accepted-line.clauses (w .𝓤) (w .H) (w .𝓖 .A) (w .𝓜 .mem) (w .𝓡 .run)

@@ -1,14 +1,14 @@
 -- A text at a place of a list: one behind another is one text, and the other bytes stay.
-use Prim.Native.Nat.{ℕ, suc, _+_, _≤_, _<_}
+use Prim.Native.Nat.{ℕ, suc, _+_, _-_, _≤_, _<_}
 use mathlib.Core.Path.{_≡_, sym, ap, _∙_}
 use mathlib.Core.List.{List, [], _∷_, _++_, append-assoc}
 use native.Mathlib.Nat.{add-assoc, zero-add}
 use native.Mathlib.Numerals.{add-one}
 use native.Mathlib.Omega.{arith}
-use lib.ListN.{length, take, drop, set, length-append}
+use lib.ListN.{length, take, drop, set, length-append, length-drop, take-append-drop}
 use lib.Seq.{length-take-le, take-at, drop-at, drop-drop, set-split, take-set-le, append-snoc}
 use borrow.Author.Tests.{le-leb, lt-leb}
-use Rattle.lines.specs.Written.{Written, Put, placed}
+use Rattle.lines.specs.Written.{Written, Lined, Put, placed}
 
 length-front : (at : ℕ) (a old : List ℕ) → at ≤ length old → length (take at old ++ a) ≡ at + length a
 length-front at a old h = rw (length-append, length-take-le at old h)
@@ -39,12 +39,54 @@ put-before at a b old h =
     ap (drop (at + length a)) split ∙ drop-at (take (at + length a) old) (b ∷ drop (suc (at + length a)) old) (at + length a) n in
     rw (take-set-le at old (at + length a) b (omega arith), behind, length-append, ← add-assoc, add-one) (simp append-assoc)
 
+-- a text over one that is no longer
+cover : (at : ℕ) (a b old : List ℕ) → at ≤ length old → length a ≤ length b → placed at b (placed at a old) ≡ placed at b old
+cover at a b old h l =
+    let e : at + length b ≡ at + length a + (length b - length a) = omega arith in
+    let front : take at (placed at a old) ≡ take at old =
+    ap (take at) (append-assoc (take at old) a (drop (at + length a) old)) ∙
+    take-at (take at old) (a ++ drop (at + length a) old) at (length-take-le at old h) in
+    let rest : drop (at + length b) (placed at a old) ≡ drop (at + length b) old =
+    rw (
+      e,
+      ← drop-drop (length b - length a) (at + length a) (placed at a old),
+      drop-at (take at old ++ a) (drop (at + length a) old) (at + length a) (length-front at a old h),
+      drop-drop (length b - length a) (at + length a) old,
+    ) in
+    rw (front, rest)
+
 -- ---- in the words of the promises
 pub then : {at : ℕ} {a b old mid new : List ℕ} {p r : ℕ} → at ≤ length old → Put at a old mid p → Put p b mid new r → Put at (a ++ b) old new r
 then {at} {a} {b} {old} h x y = record {
   behind = y .behind ∙ rw (x .behind, length-append) (omega arith);
   memory = y .memory ∙ rw (x .behind, x .memory) (put-put at a b old h);
 }
+
+pub put-as : {at : ℕ} {text line old new : List ℕ} {r : ℕ} → text ≡ line → Put at text old new r → Put at line old new r
+put-as e x = rw (← e) x
+
+pub put-long : {at : ℕ} {a old new : List ℕ} {r : ℕ} → at ≤ length old → Put at a old new r → r ≤ length new
+put-long {at} {a} {old} h x = rw (x .behind, x .memory, length-append, length-front at a old h) (omega arith)
+
+-- the second over the end of the first
+pub over : {at : ℕ} {a b old mid new : List ℕ} {p r : ℕ} (k : ℕ) → at ≤ length old → k ≤ length a → length a ≤ k + length b
+    → Put at a old mid p → Put (at + k) b mid new r → Put at (take k a ++ b) old new r
+over {at} {a} {b} {old} {mid} k h n l x y =
+    let s = length-take-le k a n in
+    let e : at + k ≡ at + length (take k a) = omega arith in
+    let m = placed at (take k a) old in
+    let split : placed at a old ≡ placed (at + length (take k a)) (drop k a) m =
+    ap (λ (t : List ℕ). placed at t old) (sym (take-append-drop k a)) ∙ sym (put-put at (take k a) (drop k a) old h) in
+    let long : at + length (take k a) ≤ length m = rw (length-append, length-front at (take k a) old h) (omega arith) in
+    let less : length (drop k a) ≤ length b = rw length-drop (omega arith) in
+    record {
+      behind = y .behind ∙ rw length-append (omega arith);
+      memory =
+          y .memory ∙
+          (ap (λ (q : ℕ). placed q b mid) e ∙
+          (ap (placed (at + length (take k a)) b) (x .memory ∙ split) ∙
+          (cover (at + length (take k a)) (drop k a) b m long less ∙ put-put at (take k a) b old h)));
+    }
 
 pub written : {text line old new : List ℕ} {r : ℕ} → 64 ≤ length old → r ≤ 64 → text ≡ line → Put 0 text old new r → Written line old new r
 written {text} {line} {old} h s e x = record {
@@ -55,6 +97,15 @@ written {text} {line} {old} h s e x = record {
 
 pub no-room : {line old : List ℕ} → length old < 64 → Written line old old 0
 no-room {line} {old} h = record { answer = rw (lt-leb 64 (length old) h); memory = rw (lt-leb 64 (length old) h); short = omega arith }
+
+pub lined : {text old new : List ℕ} {r : ℕ} → length new ≡ length old → Put 0 text old new r → Lined text old new r
+lined {text} {old} {new} {r} e x =
+    let n = x .behind in
+    let m : length new ≡ length text + (length old - length text) = ap length (x .memory) ∙ rw (length-append, length-drop, zero-add) in
+    record { count = rw (zero-add) at (x .behind); fits = omega arith; memory = x .memory ∙ rw zero-add }
+
+pub one-lined : {text old new new′ : List ℕ} {r r′ : ℕ} → Lined text old new r → Lined text old new′ r′ → (r ≡ r′) × (new ≡ new′)
+one-lined x y = (x .count ∙ sym (y .count), x .memory ∙ sym (y .memory))
 
 pub one-written : {line old new new′ : List ℕ} {r r′ : ℕ} → Written line old new r → Written line old new′ r′ → (r ≡ r′) × (new ≡ new′)
 one-written x y = (x .answer ∙ sym (y .answer), x .memory ∙ sym (y .memory))

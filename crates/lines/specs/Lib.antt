@@ -1,4 +1,6 @@
--- What a function leaves in the slice that it is lent, and the parts of a line.
+-- What a function leaves in the slice that it is lent, the parts of a line, and the lines of many entries.
 pub mod Written
 pub mod Parts
 pub mod Names
+pub mod Quick
+pub mod Runs

@@ -12,6 +12,12 @@ pub record Written (line old new : List ℕ) (r : ℕ) : Type 0 where
   pub memory : new ≡ cond (leb 64 (length old)) (line ++ drop (length line) old) old
   pub short : r ≤ 64
 
+-- the text at the start, and how many bytes it has
+pub record Lined (text old new : List ℕ) (r : ℕ) : Type 0 where
+  pub count : r ≡ length text
+  pub fits : r ≤ length old
+  pub memory : new ≡ text ++ drop (length text) old
+
 -- the text in place of as many bytes
 abbrev pub placed : ℕ → List ℕ → List ℕ → List ℕ
 placed at text old = take at old ++ text ++ drop (at + length text) old

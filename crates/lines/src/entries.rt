@@ -38,6 +38,16 @@ fn put_command(out: &mut [u8], at: usize, command: Command, counter: u8) -> usiz
     put_shown(out, named, shown)
 }
 
+pub fn put_line(out: &mut [u8], at: usize, stamp: u32, command: Command, counter: u8) -> usize
+    requires { ⌜ at + 64 ≤ length (now out) ⌝ }
+    ensures memory { λ r. ⌜ Put at (entryLine (record { stamp = stamp; cmd = commandOf command }) counter) (now (out .entry)) (now (out .exit)) r ⌝ }
+    ensures small { λ r. ⌜ r ≤ at + 24 ⌝ }
+{
+    let stamped = put_number(out, at, stamp as u64);
+    let shown = put_command(out, stamped, command, counter);
+    put_text(out, shown, b"\n")
+}
+
 // The line of an entry that was taken at this round counter, at the start of `out`, and how many bytes it has. Where `out` has under 64 bytes of room
 // nothing is written and the answer is 0.
 pub fn entry_line(out: &mut [u8], stamp: u32, command: Command, counter: u8) -> usize
@@ -46,7 +56,5 @@ pub fn entry_line(out: &mut [u8], stamp: u32, command: Command, counter: u8) -> 
     if out.len() < 64 {
         return 0;
     }
-    let stamped = put_number(out, 0, stamp as u64);
-    let shown = put_command(out, stamped, command, counter);
-    put_text(out, shown, b"\n")
+    put_line(out, 0, stamp, command, counter)
 }

@@ -20,6 +20,7 @@ pub mod Groups
 pub mod Idle
 pub mod Closed
 pub mod Bytes
+pub mod Numbers
 pub mod Computed
 pub mod Starred
 pub mod Rounding

@@ -1,6 +1,6 @@
 use borrow.Author.Needs.{needs}
 use native.Mathlib.Omega.{arith}
-use Rattle.fast.proofs.Bytes.{three-bytes}
+use Rattle.rules.proofs.Numbers.{three-bytes}
 use Rattle.fast.proofs.fronts.pins_at.Statement.{statement}
 use Rattle.fast.proofs.fronts.pins_at.Tie as tie
 

@@ -1,6 +1,6 @@
 use borrow.Author.Needs.{needs}
 use native.Mathlib.Omega.{arith}
-use Rattle.fast.proofs.Bytes.{four-bytes}
+use Rattle.rules.proofs.Numbers.{four-bytes}
 use Rattle.fast.proofs.fronts.stamp_at.Statement.{statement}
 use Rattle.fast.proofs.fronts.stamp_at.Tie as tie
 

@@ -1,6 +1,6 @@
 use mathlib.Core.Path.{sym, _∙_}
 use borrow.Author.Tests.{lt-ltb, le-ltb, eq-eqb, ne-eqb, not-true, not-false}
-use Rattle.judge.proofs.Bytes.{two-bytes}
+use Rattle.rules.proofs.Numbers.{two-bytes}
 use Rattle.judge.proofs.Fronts.{head-is}
 use native.Mathlib.Omega.{arith}
 use borrow.Author.Needs.{needs}

@@ -1,6 +1,6 @@
 use borrow.Author.Needs.{needs}
 use native.Mathlib.Omega.{arith}
-use Rattle.judge.proofs.Bytes.{more-byte}
+use Rattle.rules.proofs.Numbers.{more-byte}
 use Rattle.judge.proofs.numbers.four.Statement.{statement}
 use Rattle.judge.proofs.numbers.four.Tie as tie
 

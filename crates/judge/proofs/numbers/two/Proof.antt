@@ -1,6 +1,6 @@
 use borrow.Author.Needs.{needs}
 use native.Mathlib.Omega.{arith}
-use Rattle.judge.proofs.Bytes.{two-bytes}
+use Rattle.rules.proofs.Numbers.{two-bytes}
 use Rattle.judge.proofs.numbers.two.Statement.{statement}
 use Rattle.judge.proofs.numbers.two.Tie as tie
 
