@@ -15,7 +15,7 @@ use Rattle.rules.specs.Units.{interval}
 use Rattle.rules.specs.Folds.{orElse, firstOf}
 use Rattle.rules.specs.Checks.{unless, named}
 use Rattle.rules.specs.Account.{lpddr3, takeOne, cycle, ledgerBefore, ledgerAfter, lastCounted, firstFailing, idle, firstIdle}
-use Rattle.rules.specs.Lent.{Ledger, ledgerTo, refreshedAt, failingTo, ledgerGood, moveRefusal, moved}
+use Rattle.rules.specs.Lent.{Ledger, ledgerTo, refreshedAt, entered, failingTo, ledgerGood, moveRefusal, moved}
 use Rattle.rules.proofs.Tests.{lt-cases}
 use Rattle.rules.proofs.Biased.{ledger-biased}
 use Rattle.rules.proofs.Decided.{orElse-none, or-none}
@@ -43,6 +43,11 @@ stands-still card g = (
   rw (le-leb (g .at) (g .at) (omega arith), none-failing-there (interval card) g) (or-none _),
   as-it-was (interval card) g,
 )
+
+-- a second counted refresh in one cycle
+pub entered-again : (card : Card) (g : Ledger) (t : ℕ) → entered true card (entered true card g t) t ≡ refreshedAt true (refreshedAt true (ledgerTo (interval card) g t))
+unfolding entered refreshedAt ledgerTo
+entered-again card g t = ap (refreshedAt true) (as-it-was (interval card) (refreshedAt true (ledgerTo (interval card) g t)))
 
 module _ (I : ℕ) where
   abbrev pub ledgerOf : List ℕ → ℕ → Ledger

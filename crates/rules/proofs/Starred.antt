@@ -1,6 +1,7 @@
 -- The starred cases and the further ones, each as a file, by computation.
 use mathlib.Core.Path.{_≡_, refl, ap, sym, _∙_}
 use mathlib.Core.List.{List, [], _∷_, _++_}
+use lib.ListN.{length}
 use Rattle.rules.specs.Lists.{Every, all, isOneOf, when}
 use Rattle.rules.specs.Bits.{bits, on, bit}
 use Rattle.rules.specs.Units.{roundedUp, n, interval, rowCycle, delaysOf}
@@ -106,6 +107,7 @@ use Rattle.rules.specs.Bench.{
   Case,
   judges,
   prints,
+  measures,
   writes,
   Shown,
   _at_,
@@ -129,12 +131,14 @@ opened = tt
 unfoldable Computes : Case → Type 0
 Computes (judges bs v) = computed bs .verdict ≡ v
 Computes (prints bs ls) = entryLines (computed bs .past) ++ verdictLine (computed bs .verdict) ≡ ls
+Computes (measures bs n) = length bs ≡ n
 Computes (writes c p) = (encode c ≡ p) × (decode p ≡ good c)
 
 shown : (c : Case) → Computes c → Shown c
 unfolding Shown Computes judgeFile linesOf
 shown (judges bs v) e = ap (λ (j : Judged). j .verdict) (sym (computed-judged bs)) ∙ e
 shown (prints bs ls) e = ap (λ (j : Judged). entryLines (j .past) ++ verdictLine (j .verdict)) (sym (computed-judged bs)) ∙ e
+shown (measures bs n) e = e
 shown (writes c p) e = e
 
 all-shown : (cs : List Case) → Every Computes cs → Every Shown cs
@@ -150,7 +154,7 @@ starred-computes =
 
 further-computes : Every Computes further
 unfolding opened Computes
-further-computes = refl & refl & refl & refl & refl & refl & refl & refl & refl & refl & tt
+further-computes = refl & refl & refl & refl & refl & refl & refl & refl & refl & refl & refl & refl & tt
 
 pub starred-hold : Every Shown starred
 starred-hold = all-shown starred starred-computes

@@ -3,9 +3,10 @@ use Prim.Native.Nat.{ℕ, zero, suc}
 use mathlib.Core.Path.{_≡_, refl}
 use mathlib.Core.Bool.{Bool, true, false, cond}
 use mathlib.Core.List.{List, [], _∷_}
+use mathlib.Core.Option.{some}
 use native.Mathlib.Omega.{arith}
 use lib.Dec.{leb}
-use lib.ListN.{take}
+use lib.ListN.{take, getElem?}
 use borrow.Author.Tests.{le-leb}
 use Rattle.rules.specs.Lists.{all}
 use Rattle.rules.specs.Card.{Card}
@@ -14,7 +15,28 @@ use Rattle.rules.specs.Registers.{mr2Good}
 use Rattle.rules.specs.Ranges.{cardGood}
 use Rattle.rules.specs.Past.{Past, mr2At}
 use Rattle.rules.specs.Folds.{Found}
-use Rattle.rules.specs.Delays.{Ask, Question, Meaning, means}
+use Rattle.rules.specs.Delays.{
+  Ask,
+  lastMRW,
+  lastMRR,
+  lastREFab,
+  lastREFpb,
+  lastREFpb-to,
+  lastPRE-to,
+  lastPREA-to,
+  lastACT-to,
+  fourthLast,
+  lastRD,
+  lastWR,
+  lastRDorMRR,
+  lastRD-to,
+  lastRDA-to,
+  lastWR-to,
+  lastWRA-to,
+  Question,
+  Meaning,
+  means,
+}
 use Rattle.rules.specs.Lent.{History, asks, allStored, notAbove, remembered, historyAfter, lastOf, lastCycle, historyOf, AllTaken}
 use Rattle.rules.proofs.Tests.{both-true}
 use Rattle.rules.proofs.Rounds.{AllBelow, Rising}
@@ -35,6 +57,26 @@ module _ {A : Type 0} (p : A → Bool) where
   all-take zero l h = refl
   all-take (suc n) [] h = refl
   all-take (suc n) (x ∷ l) h = let b = both-true (p x) (all p l) h in all-cons x (take n l) (b .0) (all-take n l (b .1))
+
+-- the list of questions has every one of them
+pub asks-all : (a : Ask) → (k : ℕ) × (getElem? asks k ≡ some a)
+unfolding asks
+asks-all lastMRW = (0, refl)
+asks-all lastMRR = (1, refl)
+asks-all lastREFab = (2, refl)
+asks-all lastREFpb = (3, refl)
+asks-all lastREFpb-to = (4, refl)
+asks-all lastPRE-to = (5, refl)
+asks-all lastPREA-to = (6, refl)
+asks-all lastACT-to = (7, refl)
+asks-all fourthLast = (8, refl)
+asks-all lastRD = (9, refl)
+asks-all lastWR = (10, refl)
+asks-all lastRDorMRR = (11, refl)
+asks-all lastRD-to = (12, refl)
+asks-all lastRDA-to = (13, refl)
+asks-all lastWR-to = (14, refl)
+asks-all lastWRA-to = (15, refl)
 
 pub stored-of : (p : Ask → Found ℕ → Bool) (h : History) → ((q : Question) → all (p (q .ask)) (h q) ≡ true) → allStored p h ≡ true
 unfolding allStored

@@ -4,7 +4,7 @@ use mathlib.Core.Path.{_≡_}
 use mathlib.Core.Bool.{true, false}
 use mathlib.Core.List.{List, [], _∷_, _++_}
 use lib.IntN.{pos, negsuc}
-use lib.ListN.{take}
+use lib.ListN.{length, take}
 use Rattle.rules.specs.Card.{Timing, Card}
 use Rattle.rules.specs.Commands.{Command, mrw, refab, act, rd, wr, pre, prea}
 use Rattle.rules.specs.Pins.{good, decode, encode}
@@ -66,15 +66,17 @@ endFile end = fieldBytes 33 (bigEndian 4 end)
 unfoldable pub file : Card → List Entry → ℕ → List ℕ
 file card es end = cardFile card ++ entriesFile es ++ endFile end
 
--- ---- a case: a file and its verdict, a file and the lines printed, or a command with its pins, both ways
+-- ---- a case: a file and its verdict, a file and the lines printed, some bytes and their number, or a command with its pins, both ways
 pub data Case : Type 0 where
   judges : List ℕ → FileVerdict → Case
   prints : List ℕ → List ℕ → Case
+  measures : List ℕ → ℕ → Case
   writes : Command → ℕ → Case
 
 unfoldable pub Shown : Case → Type 0
 Shown (judges bs v) = judgeFile bs ≡ v
 Shown (prints bs ls) = linesOf bs ≡ ls
+Shown (measures bs n) = length bs ≡ n
 Shown (writes c p) = (encode c ≡ p) × (decode p ≡ good c)
 
 -- an entry
@@ -115,7 +117,7 @@ starred =
     writes (act 5 0x1234) 0x20_d2ca ∷ []
 
 -- a period of 1071 ps does not divide tREFI: I is 3641, nine intervals 32,769; a ninth early refresh is counted and not banked; MR2 values; bytes behind
--- the end field, also where E is too late; a card that is cut, and one with a bad MR2; and the lines of document 01's example
+-- the end field, also where E is too late; a card that is cut, and one with a bad MR2; the card's 135 bytes; and the lines of document 01's two examples
 unfoldable pub further : List Case
 further =
     judges (file (benchAt 1071 0x1c) [] 32_768) (accepted 0 0 (pos 8)) ∷
@@ -127,6 +129,10 @@ further =
     judges (file bench [] 28_080 ++ (0 ∷ [])) (refused 11 19 135 28_080) ∷
     judges (take 20 (file bench [] 20)) (refused 1 0 16 0) ∷
     judges (file (benchAt 1250 0x19) [] 20) (refused 4 0 7 0) ∷
+    measures (cardFile bench) 135 ∷
     prints (file bench (act 0 0 at 0 ∷ rd 0 0 false at 14 ∷ []) 20) (
     48 ∷ 32 ∷ 65 ∷ 67 ∷ 84 ∷ 32 ∷ 48 ∷ 10 ∷ 114 ∷ 101 ∷ 102 ∷ 117 ∷ 115 ∷ 101 ∷ 100 ∷ 32 ∷ 49 ∷ 48 ∷ 32 ∷ 55 ∷ 32 ∷ 49 ∷ 52 ∷ 53 ∷ 32 ∷ 49 ∷ 53 ∷ 10 ∷ []
+    ) ∷
+    prints (file bench (act 0 0 at 0 ∷ rd 0 0 false at 15 ∷ []) 20) (
+    48 ∷ 32 ∷ 65 ∷ 67 ∷ 84 ∷ 32 ∷ 48 ∷ 10 ∷ 49 ∷ 53 ∷ 32 ∷ 82 ∷ 68 ∷ 32 ∷ 48 ∷ 10 ∷ 97 ∷ 99 ∷ 99 ∷ 101 ∷ 112 ∷ 116 ∷ 101 ∷ 100 ∷ 32 ∷ 50 ∷ 32 ∷ 48 ∷ 32 ∷ 48 ∷ 10 ∷ []
     ) ∷ []

@@ -16,14 +16,16 @@ use Rattle.rules.specs.Delays.{delayRules}
 use Rattle.rules.specs.Entries.{Entry, View, viewOf, read, commandOf, taken}
 use Rattle.rules.specs.Account.{lpddr3, failingAt, firstFailing}
 
--- a refusal's number, rule and cycle; rule and cycle are 0 except for 10 and 11
+-- a refusal is four numbers; rule and cycle are 0 except for 10 and 11
 pub record Refusal : Type 0 where
   pub number : ℕ
   pub rule : ℕ
+  pub offset : ℕ
   pub cycle : ℕ
 
+-- its offset is 0 from single steps; a file puts the tag byte's in its place (`File.orRefused`)
 unfoldable pub refusal : (number rule cycle : ℕ) → Refusal
-refusal k q t = record { number = k; rule = q; cycle = t }
+refusal k q t = record { number = k; rule = q; offset = 0; cycle = t }
 
 -- this number, unless the test passes
 unfoldable pub unless : Bool → ℕ → Option Refusal

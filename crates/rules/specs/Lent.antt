@@ -150,7 +150,8 @@ unfoldable pub refreshedAt : Bool → Ledger → Ledger
 refreshedAt true g = record { at = g .at; owing = takeOne (lpddr3 .credit) (g .owing); refreshed = g .at }
 refreshedAt false g = g
 
--- an entry's own cycle
+-- an entry's own cycle. Of a ledger alone it is not known whether an entry came at its cycle: a second counted refresh there takes 1 more
+-- (proofs/Ledgers, `entered-again`); that stamps rise is asked of a record
 unfoldable pub entered : (counted : Bool) → Card → Ledger → ℕ → Ledger
 entered counted card g t = refreshedAt counted (ledgerTo (interval card) g t)
 
