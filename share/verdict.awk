@@ -1,15 +1,23 @@
-# Passes the judge's lines on, behind form.awk; the exit status is the verdict's. Where TRACE names the file that was judged, the verdict is followed by
-# words for it, from the table that WORDS names.
+# Passes the judge's lines on, behind form.awk. Behind them comes a line "ended STATUS", with an empty line before it if the last line is whole. The exit status
+# is 0 for accepted, 3 for refused (some awks end with 1 when they fail), 2 where there is no verdict or the program failed; the verdict is passed on only if all
+# is well. Where TRACE names the file that was judged, the verdict is followed by words for it, from the table that WORDS names.
 
-{ print; last = $0 }
+/^[0-9]/ { print; next }
+
+{ tail[++count] = $0 }
 
 END {
-    split(last, verdict, " ")
+    if (count != 3 || tail[2] != "" || tail[3] != "ended 0")
+        exit 2
+    if (tail[1] !~ /^accepted [0-9]+ [0-9]+ -?[0-9]+$/ && tail[1] !~ /^refused [0-9]+ [0-9]+ [0-9]+ [0-9]+$/)
+        exit 2
+    print tail[1]
+    split(tail[1], verdict, " ")
     if (ENVIRON["TRACE"] != "" && verdict[1] == "refused")
         explain_refusal(verdict[2], verdict[3] + 0, verdict[4] + 0, verdict[5])
     if (ENVIRON["TRACE"] != "" && verdict[1] == "accepted")
         explain_counts()
-    exit verdict[1] == "accepted" ? 0 : verdict[1] == "refused" ? 1 : 2
+    exit verdict[1] == "accepted" ? 0 : 3
 }
 
 function read_words(    line, part) {
