@@ -1,9 +1,8 @@
 -- A fresh record is the rules' fresh record.
-use Prim.Native.Nat.{ℕ, zero, suc}
+use Prim.Native.Nat.{ℕ}
 use mathlib.Core.Path.{_≡_, refl}
 use mathlib.Core.Bool.{false}
 use mathlib.Core.List.{[]}
-use lib.ListN.{getD, replicate}
 use Rattle.rules.specs.Delays.{
   Ask,
   lastMRW,
@@ -44,39 +43,36 @@ use Rattle.bank.specs.Values.{
   neverNoted,
   neverEach,
   neverNotedEach,
+  neverFour,
   freshOf,
 }
-
-none-there : (n b : ℕ) → getD (replicate n false) b false ≡ false
-none-there zero b = refl
-none-there (suc n) zero = refl
-none-there (suc n) (suc b) = none-there n b
+use Rattle.bank.proofs.Places.{same-everywhere}
 
 nothing : (card : Card) (a : Ask) (b : ℕ) → asked (freshOf card) a b ≡ []
-unfolding kept once noted each notedEach four outweighed preOf preaOf asked never neverNoted neverEach neverNotedEach freshOf
+unfolding kept once noted each notedEach four outweighed preOf preaOf asked never neverNoted neverEach neverNotedEach neverFour freshOf
 nothing card lastMRW b = refl
 nothing card lastMRR b = refl
 nothing card lastREFab b = refl
 nothing card lastREFpb b = refl
-nothing card lastREFpb-to b = rw (none-there 8 b)
-nothing card lastPRE-to b = rw (none-there 8 b)
+nothing card lastREFpb-to b = rw (same-everywhere 8 b false)
+nothing card lastPRE-to b = rw (same-everywhere 8 b false)
 nothing card lastPREA-to b = refl
-nothing card lastACT-to b = rw (none-there 8 b)
+nothing card lastACT-to b = rw (same-everywhere 8 b false)
 nothing card fourthLast b = refl
 nothing card lastRD b = refl
 nothing card lastWR b = refl
 nothing card lastRDorMRR b = refl
-nothing card lastRD-to b = rw (none-there 8 b)
-nothing card lastRDA-to b = rw (none-there 8 b)
-nothing card lastWR-to b = rw (none-there 8 b)
-nothing card lastWRA-to b = rw (none-there 8 b)
+nothing card lastRD-to b = rw (same-everywhere 8 b false)
+nothing card lastRDA-to b = rw (same-everywhere 8 b false)
+nothing card lastWR-to b = rw (same-everywhere 8 b false)
+nothing card lastWRA-to b = rw (same-everywhere 8 b false)
 
 pub fresh-lent : (card : Card) → lentOf (freshOf card) ≡ lent.fresh (cardOf card)
 unfolding lentOf lent.fresh lastOf ledgerOf cardOf freshOf never
 fresh-lent card = λ i. record {
   card = cardOf card;
   mr2 = card .mr2;
-  open? = λ b. none-there 8 b i;
+  open? = λ b. same-everywhere 8 b false i;
   counter = 0;
   last = lastOf never;
   history = λ q. nothing card (q .ask) (q .bank) i;

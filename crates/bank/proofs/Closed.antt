@@ -1,38 +1,21 @@
 -- The end offered to a record goes by the ledger that is moved on to it.
 use Prim.Native.Nat.{ℕ}
-use mathlib.Core.Path.{_≡_, refl, sym}
+use mathlib.Core.Path.{_≡_, refl}
 use mathlib.Core.Bool.{Bool, true, false, cond, _&&_}
 use mathlib.Core.Option.{none, some}
 use lib.Dec.{leb, ltb}
 use borrow.Author.Tests.{ltb-true, ltb-false, le-leb, lt-leb}
-use Rattle.rules.specs.Ranges.{cardGood}
 use Rattle.rules.specs.Folds.{orElse, firstOf}
 use Rattle.rules.specs.Checks.{unless}
-use Rattle.rules.specs.Lent.{Lent, mr2sGood, owingGood, stampsGood, refreshedGood, lentGood, ledgerGood, lastBy, closeRefusal, moveRefusal, moved}
+use Rattle.rules.specs.Lent.{Lent, lentGood, lastBy, closeRefusal, moveRefusal, moved}
 use Rattle.rules.proofs.Tests.{both-true}
+use Rattle.rules.proofs.Sound.{ledger-good}
 use Rattle.card.specs.Values.{cardOf}
 use Rattle.ledger.specs.declared.After.{After}
 use Rattle.ledger.specs.declared.Answer.the-variants.{BadRecord, Earlier}
 use Rattle.ledger.specs.Values.{ledgerOf, refusalOf, unlessRefused, afterAs, Left}
 use Rattle.bank.specs.declared.Record.{Record}
 use Rattle.bank.specs.Values.{lastOf, lentOf}
-
-first-third-sixth : (a b c d e f g : Bool) → (a && b && c && d && e && f && g) ≡ true → (a && c && f) ≡ true
-first-third-sixth true b true d e true g h = refl
-first-third-sixth false b c d e f g h = h
-first-third-sixth true false false d e f g h = h
-first-third-sixth true true false d e f g h = h
-first-third-sixth true false true d e false g h = h
-first-third-sixth true true true false e false g h = h
-first-third-sixth true true true true false false g h = h
-first-third-sixth true true true true true false g h = h
-
--- a record that 13 lets pass has a ledger that 13 lets pass
-pub ledger-good : (l : Lent) → lentGood l ≡ true → ledgerGood (l .card) (l .ledger) ≡ true
-unfolding lentGood ledgerGood
-ledger-good l e =
-    first-third-sixth (cardGood (l .card)) (mr2sGood l) (owingGood (l .ledger .owing)) (stampsGood l) (lastBy (l .last) (l .ledger .at)) (refreshedGood (l .ledger))
-    (leb (l .counter) 7) e
 
 as-moved : (l : Lent) (end : ℕ) → lentGood l ≡ true → lastBy (l .last) end ≡ true → moveRefusal (l .card) (l .ledger) end ≡ closeRefusal l end
 unfolding closeRefusal moveRefusal firstOf orElse unless

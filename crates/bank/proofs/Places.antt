@@ -1,16 +1,17 @@
 -- One place of an array changed, the flags of open banks, and the four activations.
-use Prim.Native.Nat.{ℕ, zero, suc, _+_, _≤_, _<_, min}
+use Prim.Native.Nat.{ℕ, zero, suc, _+_, _≤_, _<_}
 use mathlib.Core.Path.{_≡_, refl, ap, _∙_}
 use mathlib.Core.Bool.{Bool, true, false, cond, _&&_, _||_}
-use mathlib.Core.List.{List, [], _∷_, map}
+use mathlib.Core.List.{List, _∷_}
 use mathlib.Core.Logic.{⊎-elim}
 use native.Mathlib.Omega.{arith}
+use borrow.Author.Tests.{le-leb}
 use lib.Dec.{eqb, leb}
 use lib.ListN.{length, getD, set, take, replicate, length-set}
 use lib.Seq.{getD-set-same, getD-set-other}
 use Rattle.rules.specs.Commands.{Command, ACT, RD, WR, PRE, PREA, is, bankOf, apOf}
 use Rattle.rules.specs.Past.{opens, precharges, closes, openAfter}
-use Rattle.rules.proofs.Tests.{eq-cases, le-cases}
+use Rattle.rules.proofs.Tests.{eq-cases}
 use Rattle.bank.specs.Values.{entry, four}
 use Rattle.bank.specs.After.{shifted, pushedOn, shuts, openedAfter}
 use Rattle.bank.specs.declared.Four.{Four}
@@ -20,6 +21,11 @@ set-read l k b v d h =
     ⊎-elim (λ (p : (k ≡ b) × (eqb k b ≡ true)). rw (p .1, p .0, getD-set-same l b v d (omega arith)))
     (λ (p : (k ≡ b → ⊥) × (eqb k b ≡ false)). rw (p .1, getD-set-other l k b v d (omega arith)))
     (eq-cases k b)
+
+pub same-everywhere : {A : Type 0} (n b : ℕ) (d : A) → getD (replicate n d) b d ≡ d
+same-everywhere zero b d = refl
+same-everywhere (suc n) zero d = refl
+same-everywhere (suc n) (suc b) d = same-everywhere n b d
 
 -- ---- open banks
 put-if : (now : Bool) (l : List Bool) (k b : ℕ) (v : Bool) → k < length l
@@ -31,13 +37,8 @@ put-length : (now : Bool) (l : List Bool) (k : ℕ) (v : Bool) → length (cond 
 put-length true l k v = length-set l k v
 put-length false l k v = refl
 
-all-false : (n b : ℕ) → getD (replicate n false) b false ≡ false
-all-false zero b = refl
-all-false (suc n) zero = refl
-all-false (suc n) (suc b) = all-false n b
-
 cleared : (now : Bool) (l : List Bool) (b : ℕ) → getD (cond now (replicate 8 false) l) b false ≡ cond now false (getD l b false)
-cleared true l b = all-false 8 b
+cleared true l b = same-everywhere 8 b false
 cleared false l b = refl
 
 cleared-length : (now : Bool) (l : List Bool) → length l ≡ 8 → length (cond now (replicate 8 false) l) ≡ 8
@@ -75,34 +76,17 @@ opened-after c l b e h =
     ∙ closing (is PREA c) (is PRE c) (is RD c || is WR c) (apOf c) (eqb k b) (getD l b false))
 
 -- ---- the four activations
-shift-few : (t n a b c d : ℕ) → n < 4
-    → map (λ x. entry x 0) (take (n + 1) (t ∷ a ∷ b ∷ c ∷ [])) ≡ entry t 0 ∷ take 3 (map (λ x. entry x 0) (take n (a ∷ b ∷ c ∷ d ∷ [])))
-shift-few t zero a b c d h = refl
-shift-few t (suc zero) a b c d h = refl
-shift-few t (suc (suc zero)) a b c d h = refl
-shift-few t (suc (suc (suc zero))) a b c d h = refl
-shift-few t (suc (suc (suc (suc n)))) a b c d h = absurd (omega arith)
-
-shift-four : (t n : ℕ) (l : List ℕ) → length l ≡ 4
-    → map (λ x. entry x 0) (take (min (cond (leb 4 n) 4 (n + 1)) 4) (shifted t l)) ≡ entry t 0 ∷ take 3 (map (λ x. entry x 0) (take (min n 4) l))
-shift-four t n [] h = absurd (omega arith)
-shift-four t n (a ∷ []) h = absurd (omega arith)
-shift-four t n (a ∷ b ∷ []) h = absurd (omega arith)
-shift-four t n (a ∷ b ∷ c ∷ []) h = absurd (omega arith)
-shift-four t n (a ∷ b ∷ c ∷ d ∷ e ∷ l) h = absurd (omega arith)
-shift-four t n (a ∷ b ∷ c ∷ d ∷ []) h =
-    ⊎-elim
-    (λ (p : (4 ≤ n) × (leb 4 n ≡ true)).
-    let m : min n 4 ≡ 4 = omega arith in
-    rw (p .1, m))
-    (λ (p : (n < 4) × (leb 4 n ≡ false)).
-    let m : min n 4 ≡ n = omega arith in
-    let o : min (n + 1) 4 ≡ n + 1 = omega arith in
-    rw (p .1, m, o) (shift-few t n a b c d (p .0)))
-    (le-cases 4 n)
-
-pub four-after : (now : Bool) (t : ℕ) (x : Four) → length (x .at) ≡ 4
-    → four (cond now (pushedOn t x) x) ≡ cond now (entry t 0 ∷ take 3 (four x)) (four x)
+pushed-four : (t : ℕ) (x : Four) → four (pushedOn t x) ≡ entry t 0 ∷ take 3 (four x)
 unfolding four pushedOn
-four-after true t x e = shift-four t (x .count) (x .at) e
-four-after false t x e = refl
+pushed-four t x = go (x .count) (x .at)
+  where
+    go : (n : ℕ) (l : List ℕ) → four (record { count = cond (leb 4 n) 4 (n + 1); at = shifted t l }) ≡ entry t 0 ∷ take 3 (four (record { count = n; at = l }))
+    go zero l = refl
+    go (suc zero) l = refl
+    go (suc (suc zero)) l = refl
+    go (suc (suc (suc zero))) l = refl
+    go (suc (suc (suc (suc n)))) l = rw (le-leb 4 (suc (suc (suc (suc n)))) (omega arith))
+
+pub four-after : (now : Bool) (t : ℕ) (x : Four) → four (cond now (pushedOn t x) x) ≡ cond now (entry t 0 ∷ take 3 (four x)) (four x)
+four-after true t x = pushed-four t x
+four-after false t x = refl

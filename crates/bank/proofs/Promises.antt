@@ -6,6 +6,7 @@ use Rattle.bank.proofs.fresh.fresh_record as fresh-record
 use Rattle.bank.proofs.ending.close as close
 use Rattle.bank.proofs.sound.good as good
 use Rattle.bank.proofs.taking.after as after
+use Rattle.bank.proofs.taking.pushed as pushed
 
 abbrev fresh-record-says : Promise fresh-record.ended
 fresh-record-says w = fresh-record.clauses (w .𝓤) (w .H) (w .𝓖 .A) (w .𝓜 .mem) (w .𝓡 .run)
@@ -31,3 +32,9 @@ after-says w = after.clauses (w .𝓤) (w .H) (w .𝓖 .A) (w .𝓜 .mem) (w .�
 
 pub after-determined : Determined after.ended after-says
 after-determined = determined after.ended after-says (λ κs a r e. fact-of _) (λ κs a r r′ ws ws′ p p′. (p .is ∙ sym (p′ .is), refl))
+
+abbrev pushed-says : Promise pushed.ended
+pushed-says w = pushed.clauses (w .𝓤) (w .H) (w .𝓖 .A) (w .𝓜 .mem) (w .𝓡 .run)
+
+pub pushed-determined : Determined pushed.ended pushed-says
+pushed-determined = determined pushed.ended pushed-says (λ κs a r e. fact-of _) (λ κs a r r′ ws ws′ p p′. (p ∙ sym p′, refl))

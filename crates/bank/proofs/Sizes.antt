@@ -29,7 +29,6 @@ pub noted-whole : (x : NotedEach) → length (map (λ (v : Bool). v) (x .seen)) 
 noted-whole x s a m = record { seen = held (x .seen) s; at = held (x .at) a; mr2 = held (x .mr2) m }
 
 pub record Whole (r : Record) : Type 0 where
-  pub four : length (r .four .at) ≡ 4
   pub opened : length (r .banks .opened) ≡ 8
   pub refpb : EachWhole (r .banks .refpb)
   pub pre : EachWhole (r .banks .pre)

@@ -1,13 +1,14 @@
 -- Refusal 13 of what a record remembers, from the rules' tests over questions and banks to a test of each field.
-use Prim.Native.Nat.{ℕ, zero, suc, _+_, _-_, _≤_, _<_, min}
+use Prim.Native.Nat.{ℕ, zero, suc, _≤_, _<_}
 use mathlib.Core.Path.{_≡_, refl, ap, sym, _∙_}
 use mathlib.Core.Logic.{⊎-elim}
-use mathlib.Core.Bool.{Bool, true, false, cond, _&&_}
+use mathlib.Core.Bool.{Bool, true, false, cond, _&&_, and-true, and-false, and-assoc, and-comm}
 use mathlib.Core.List.{List, [], _∷_}
 use mathlib.Core.Option.{none, some}
 use native.Mathlib.Omega.{arith}
 use lib.Dec.{leb, ltb}
-use lib.ListN.{length, getD}
+use lib.ListN.{getD, take}
+use lib.Seq.{take-nil}
 use borrow.Author.Tests.{lt-ltb, le-ltb, le-leb}
 use Rattle.rules.specs.Lists.{all}
 use Rattle.rules.specs.Commands.{banks}
@@ -45,27 +46,12 @@ use Rattle.bank.specs.declared.Once.{Once}
 use Rattle.bank.specs.declared.Noted.{Noted}
 use Rattle.bank.specs.declared.Each.{Each}
 use Rattle.bank.specs.declared.NotedEach.{NotedEach}
+use Rattle.bank.specs.declared.Four.{Four}
 use Rattle.bank.specs.declared.Record.{Record}
-use Rattle.bank.specs.Values.{entry, kept, once, noted, each, notedEach, four, outweighed, preOf, preaOf, asked, lastOf, lentOf}
+use Rattle.bank.specs.Values.{entry, kept, once, noted, each, notedEach, place, four, outweighed, preOf, preaOf, asked, lastOf, lentOf}
 use Rattle.bank.specs.Clauses.{keptBy, eachBy, fourBy, latestBy, rowsBy, busBy, dataBy, noteGood, notesGood}
 
 -- ---- conjunctions
-and-true : (a : Bool) → (a && true) ≡ a
-and-true true = refl
-and-true false = refl
-
-and-false : (a : Bool) → (a && false) ≡ false
-and-false true = refl
-and-false false = refl
-
-and-assoc : (a b c : Bool) → ((a && b) && c) ≡ (a && (b && c))
-and-assoc true b c = refl
-and-assoc false b c = refl
-
-and-comm : (a b : Bool) → (a && b) ≡ (b && a)
-and-comm true b = sym (and-true b)
-and-comm false b = sym (and-false b)
-
 and-swap : (a b c d : Bool) → ((a && b) && (c && d)) ≡ ((a && c) && (b && d))
 and-swap true b true d = refl
 and-swap true true false d = refl
@@ -77,7 +63,7 @@ pub all-onward : (p : ℕ → Bool) → all p banks ≡ onward p 0 8
 unfolding onward all banks
 all-onward p = refl
 
-all-const : (a : Bool) → all (λ b. a) banks ≡ a
+pub all-const : (a : Bool) → all (λ b. a) banks ≡ a
 unfolding all banks
 all-const true = refl
 all-const false = refl
@@ -147,27 +133,19 @@ module _ (last : Once) where
   unfolding keptBy eachBy
   each-by s t n = kept-each below (λ b. getD s b false) (λ b. getD t b 0) n
 
-  four-of : (n a b c d : ℕ) →
-      fourBy last n (a ∷ b ∷ c ∷ d ∷ []) ≡ onward (λ k. keptBy last (ltb k n) (getD (a ∷ b ∷ c ∷ d ∷ []) k 0)) 0 4
+  pub fours : (x : Four) → fourBy last x ≡ onward (λ k. keptBy last (ltb k (x .count)) (getD (x .at) k 0)) 0 4
   unfolding fourBy four all keptBy onward
-  four-of zero a b c d = refl
-  four-of (suc zero) a b c d = refl
-  four-of (suc (suc zero)) a b c d = refl
-  four-of (suc (suc (suc zero))) a b c d = refl
-  four-of (suc (suc (suc (suc n)))) a b c d =
-      let m : min (suc (suc (suc (suc n)))) 4 ≡ 4 = omega arith in
-      rw (m, seen 0 (omega arith), seen 1 (omega arith), seen 2 (omega arith), seen 3 (omega arith))
+  fours x = go (x .count)
     where
-      seen : (k : ℕ) → k ≤ 3 → ltb k (suc (suc (suc (suc n)))) ≡ true
-      seen k h = lt-ltb k (suc (suc (suc (suc n)))) (omega arith)
-
-  pub fours : (n : ℕ) (l : List ℕ) → length l ≡ 4 → fourBy last n l ≡ onward (λ k. keptBy last (ltb k n) (getD l k 0)) 0 4
-  fours n [] h = absurd (omega arith)
-  fours n (a ∷ []) h = absurd (omega arith)
-  fours n (a ∷ b ∷ []) h = absurd (omega arith)
-  fours n (a ∷ b ∷ c ∷ []) h = absurd (omega arith)
-  fours n (a ∷ b ∷ c ∷ d ∷ []) h = four-of n a b c d
-  fours n (a ∷ b ∷ c ∷ d ∷ e ∷ l) h = absurd (omega arith)
+      go : (n : ℕ) → all below (take n (place x 0 ∷ place x 1 ∷ place x 2 ∷ place x 3 ∷ [])) ≡ onward (λ k. keptBy last (ltb k n) (getD (x .at) k 0)) 0 4
+      go zero = refl
+      go (suc zero) = refl
+      go (suc (suc zero)) = refl
+      go (suc (suc (suc zero))) = refl
+      go (suc (suc (suc (suc n)))) = rw (seen 0 (omega arith), seen 1 (omega arith), seen 2 (omega arith), seen 3 (omega arith), take-nil n)
+        where
+          seen : (k : ℕ) → k ≤ 3 → ltb k (suc (suc (suc (suc n)))) ≡ true
+          seen k h = lt-ltb k (suc (suc (suc (suc n)))) (omega arith)
 
   -- of two stamps, the later one tells
   later-tells : (t u : ℕ) → t ≤ u → (notAbove (lastOf last) t && notAbove (lastOf last) u) ≡ notAbove (lastOf last) u
@@ -220,11 +198,11 @@ module _ (rec : Record) where
   pub stamps-are : stampsGood (lentOf rec) ≡ (
       latestBy (rec .last) (rec .latest) &&
       rowsBy (rec .last) (rec .banks) (rec .latest .prea) &&
-      fourBy (rec .last) (rec .four .count) (rec .four .at) &&
+      all (λ b. all (λ f. notAbove (lastOf (rec .last)) (f .stamp)) (asked rec fourthLast b)) banks &&
       busBy (rec .last) (rec .bus) &&
       dataBy (rec .last) (rec .banks)
       )
-  unfolding stampsGood allStored lentOf asked once noted each notedEach preOf preaOf latestBy rowsBy busBy dataBy fourBy
+  unfolding stampsGood allStored lentOf asked once noted each notedEach preOf preaOf latestBy rowsBy busBy dataBy
   stamps-are =
       let z = rec .last in
       let l = rec .latest in
@@ -237,7 +215,7 @@ module _ (rec : Record) where
       once-by z (l .refab .seen) (l .refab .at) 0 i &&
       once-by z (l .refpb .seen) (l .refpb .at) 0 i) &&
       (each-by z (k .refpb .seen) (k .refpb .at) (λ b. 0) i && pre-and-prea z (k .pre) (l .prea) i && each-by z (k .act .seen) (k .act .at) (λ b. 0) i) &&
-      all-const (fourBy z (rec .four .count) (rec .four .at)) i &&
+      all (λ b. all (below z) (asked rec fourthLast b)) banks &&
       (once-by z (u .rd .seen) (u .rd .at) 0 i &&
       once-by z (u .wr .seen) (u .wr .at) (u .wr .mr2) i &&
       once-by z (u .turn .seen) (u .turn .at) (u .turn .mr2) i) &&

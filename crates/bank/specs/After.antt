@@ -1,5 +1,5 @@
 -- What an entry that was taken changes: in the record of the rules, and in that of the code.
-use Prim.Native.Nat.{ℕ, suc, _+_, _≤_}
+use Prim.Native.Nat.{ℕ, _+_, _≤_}
 use mathlib.Core.Path.{_≡_}
 use mathlib.Core.Bool.{Bool, true, false, cond, _&&_, _||_}
 use mathlib.Core.List.{List, [], _∷_}
@@ -10,6 +10,7 @@ use Rattle.rules.specs.Commands as rules
 use Rattle.rules.specs.Commands.{MRW, MRR, REFPB, REFAB, ACT, RD, WR, PRE, PREA, is, bankOf, apOf}
 use Rattle.rules.specs.Past.{registerAfter, counterAfter, openAfter, bankAt}
 use Rattle.rules.specs.Lent as lent
+use Rattle.pins.specs.Counter.{counterOn}
 use Rattle.ledger.specs.declared.Ledger.{Ledger}
 use Rattle.ledger.specs.Values.{ledgerOf}
 use Rattle.bank.specs.Values.{lentOf}
@@ -75,10 +76,6 @@ unfoldable pub pushedOn : ℕ → Four → Four
 pushedOn t x = record { count = cond (leb 4 (x .count)) 4 (x .count + 1); at = shifted t (x .at) }
 
 -- ---- the parts of the record
--- a counter above 7 goes round as 7 does
-unfoldable pub counterOn : rules.Command → ℕ → ℕ
-counterOn c n = cond (is REFAB c) 0 (cond (is REFPB c) (cond (leb 7 n) 0 (suc n)) n)
-
 unfoldable pub fourAfter : rules.Command → (stamp : ℕ) → Four → Four
 fourAfter c t x = cond (is ACT c || is REFPB c) (pushedOn t x) x
 

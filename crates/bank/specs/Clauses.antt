@@ -8,6 +8,7 @@ use Rattle.rules.specs.Commands.{banks}
 use Rattle.rules.specs.Registers.{mr2Good}
 use Rattle.rules.specs.Lent.{notAbove}
 use Rattle.bank.specs.declared.Once.{Once}
+use Rattle.bank.specs.declared.Four.{Four}
 use Rattle.bank.specs.declared.Latest.{Latest}
 use Rattle.bank.specs.declared.Bus.{Bus}
 use Rattle.bank.specs.declared.Banks.{Banks}
@@ -20,8 +21,8 @@ keptBy last s t = cond s (notAbove (lastOf last) t) true
 unfoldable pub eachBy : Once → List Bool → List ℕ → Bool
 eachBy last s t = all (λ b. keptBy last (getD s b false) (getD t b 0)) banks
 
-unfoldable pub fourBy : Once → (count : ℕ) → List ℕ → Bool
-fourBy last n t = all (λ f. notAbove (lastOf last) (f .stamp)) (four (record { count = n; at = t }))
+unfoldable pub fourBy : Once → Four → Bool
+fourBy last x = all (λ f. notAbove (lastOf last) (f .stamp)) (four x)
 
 unfoldable pub latestBy : Once → Latest → Bool
 latestBy last x =

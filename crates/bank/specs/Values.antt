@@ -1,11 +1,9 @@
 -- The record of the code, read as the lent record of the rules.
-use Prim.Native.Nat.{ℕ, min}
-use mathlib.Core.Path.{_≡_}
+use Prim.Native.Nat.{ℕ}
 use mathlib.Core.Bool.{Bool, false, cond, _&&_}
-use mathlib.Core.List.{List, [], _∷_, map}
+use mathlib.Core.List.{List, [], _∷_}
 use mathlib.Core.Option.{Option, none, some}
 use lib.Dec.{ltb}
-use lib.IntN.{ℤ, subℕ}
 use lib.ListN.{getD, take, replicate}
 use Rattle.rules.specs.Folds.{Found}
 use Rattle.rules.specs.Delays.{
@@ -57,8 +55,11 @@ each x b = kept (getD (x .seen) b false) (getD (x .at) b 0) 0
 unfoldable pub notedEach : NotedEach → ℕ → List (Found ℕ)
 notedEach x b = kept (getD (x .seen) b false) (getD (x .at) b 0) (getD (x .mr2) b 0)
 
+abbrev pub place : Four → ℕ → Found ℕ
+place x k = entry (getD (x .at) k 0) 0
+
 unfoldable pub four : Four → List (Found ℕ)
-four x = map (λ t. entry t 0) (take (min (x .count) 4) (x .at))
+four x = take (x .count) (place x 0 ∷ place x 1 ∷ place x 2 ∷ place x 3 ∷ [])
 
 -- both were seen, and the second came later
 unfoldable pub outweighed : (seen later : Bool) → (at other : ℕ) → Bool
@@ -122,6 +123,9 @@ neverEach = record { seen = replicate 8 false; at = replicate 8 0 }
 unfoldable pub neverNotedEach : NotedEach
 neverNotedEach = record { seen = replicate 8 false; at = replicate 8 0; mr2 = replicate 8 0 }
 
+unfoldable pub neverFour : Four
+neverFour = record { count = 0; at = replicate 4 0 }
+
 unfoldable pub freshOf : Card → Record
 freshOf card = record {
   card = card;
@@ -140,7 +144,7 @@ freshOf card = record {
     wr = neverNoted;
     turn = neverNoted;
   };
-  four = record { count = 0; at = replicate 4 0 };
+  four = neverFour;
   banks = record {
     opened = replicate 8 false;
     refpb = neverEach;

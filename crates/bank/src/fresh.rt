@@ -32,6 +32,11 @@ const NEVER_NOTED_EACH: NotedEach = NotedEach {
     mr2: [0; 8],
 };
 
+const NEVER_FOUR: Four = Four {
+    count: 0,
+    at: [0; 4],
+};
+
 pub fn fresh_record(card: Card) -> Record
     ensures { λ r. ⌜ r ≡ freshOf card ⌝ }
 {
@@ -52,10 +57,7 @@ pub fn fresh_record(card: Card) -> Record
             wr: NEVER_NOTED,
             turn: NEVER_NOTED,
         },
-        four: Four {
-            count: 0,
-            at: [0; 4],
-        },
+        four: NEVER_FOUR,
         banks: Banks {
             opened: [false; 8],
             refpb: NEVER_EACH,

@@ -10,6 +10,7 @@ pub use fresh::fresh_record;
 use ledger::Ledger;
 pub use sound::good;
 pub use taking::after;
+pub use taking::pushed;
 
 // The stamp of an entry. That there is no such entry yet is a state of its own, since a stamp uses all 32 bits.
 pub struct Once {

@@ -1,11 +1,14 @@
 // What 13 says of a record.
 ghost use mathlib.Core.Path.{_≡_};
+ghost use mathlib.Core.Bool.{true};
+ghost use Rattle.rules.specs.Registers.{mr2Good};
 ghost use Rattle.rules.specs.Lent as lent;
 ghost use Rattle.bank.specs.Clauses.{keptBy, eachBy, fourBy, latestBy, rowsBy, busBy, dataBy, noteGood, notesGood};
 ghost use Rattle.bank.specs.Values.{lastOf, lentOf};
 use crate::Banks;
 use crate::Bus;
 use crate::Each;
+use crate::Four;
 use crate::Latest;
 use crate::NotedEach;
 use crate::Once;
@@ -50,9 +53,11 @@ fn noted_by(last: Once, x: NotedEach) -> bool
     all_by(last, seen, at)
 }
 
-fn four_by(last: Once, count: u8, at: [u32; 4]) -> bool
-    ensures { λ r. ⌜ r ≡ fourBy last count at ⌝ }
+fn four_by(last: Once, x: Four) -> bool
+    ensures { λ r. ⌜ r ≡ fourBy last x ⌝ }
 {
+    let count = x.count;
+    let at = x.at;
     let mut i: u8 = 0;
     while i < 4 {
         if !by(last, i < count, at[i as usize]) {
@@ -96,29 +101,34 @@ fn data_by(last: Once, x: Banks) -> bool
 fn stamps_good(rec: Record) -> bool
     ensures { λ r. ⌜ r ≡ lent.stampsGood (lentOf rec) ⌝ }
 {
-    let at = rec.four.at;
     latest_by(rec.last, rec.latest)
         & rows_by(rec.last, rec.banks, rec.latest.prea)
-        & four_by(rec.last, rec.four.count, at)
+        & four_by(rec.last, rec.four)
         & bus_by(rec.last, rec.bus)
         & data_by(rec.last, rec.banks)
 }
 
-fn note_good(period: u32, seen: bool, mr2: u8) -> bool
+// `now` is the present value: what equals it is not looked up again.
+fn note_good(period: u32, now: u8, seen: bool, mr2: u8) -> bool
+    requires { ⌜ mr2Good period now ≡ true ⌝ }
     ensures { λ r. ⌜ r ≡ noteGood period seen mr2 ⌝ }
 {
     if !seen {
         return true;
     }
+    if mr2 == now {
+        return true;
+    }
     card::mr2_good(period, mr2)
 }
 
-fn notes_good(period: u32, x: NotedEach) -> bool
+fn notes_good(period: u32, now: u8, x: NotedEach) -> bool
+    requires { ⌜ mr2Good period now ≡ true ⌝ }
     ensures { λ r. ⌜ r ≡ notesGood period (x .seen) (x .mr2) ⌝ }
 {
     let mut i: usize = 0;
     while i < 8 {
-        if !note_good(period, x.seen[i], x.mr2[i]) {
+        if !note_good(period, now, x.seen[i], x.mr2[i]) {
             return false;
         }
         i += 1;
@@ -130,10 +140,13 @@ fn mr2s_good(rec: Record) -> bool
     ensures { λ r. ⌜ r ≡ lent.mr2sGood (lentOf rec) ⌝ }
 {
     let period = rec.card.period;
-    card::mr2_good(period, rec.mr2)
-        & (note_good(period, rec.bus.wr.seen, rec.bus.wr.mr2)
-            & note_good(period, rec.bus.turn.seen, rec.bus.turn.mr2))
-        & (notes_good(period, rec.banks.wr) & notes_good(period, rec.banks.wra))
+    let now = rec.mr2;
+    if !card::mr2_good(period, now) {
+        return false;
+    }
+    (note_good(period, now, rec.bus.wr.seen, rec.bus.wr.mr2)
+        & note_good(period, now, rec.bus.turn.seen, rec.bus.turn.mr2))
+        & (notes_good(period, now, rec.banks.wr) & notes_good(period, now, rec.banks.wra))
 }
 
 fn last_by(last: Once, cycle: u32) -> bool

@@ -3,7 +3,7 @@ ghost use mathlib.Core.Path.{_≡_};
 ghost use lib.ListN.{set};
 ghost use Rattle.rules.specs.Past.{registerAfter};
 ghost use Rattle.pins.specs.Values.{commandOf};
-ghost use Rattle.bank.specs.After.{Changed, onceAt, notedAt, putEach, putNoted, shifted, counterOn, pushedOn, fourAfter, latestAfter, busAfter, openedAfter, readOn, writtenOn, stampedAfter, banksAfter};
+ghost use Rattle.bank.specs.After.{Changed, onceAt, notedAt, putEach, putNoted, shifted, pushedOn, fourAfter, latestAfter, busAfter, openedAfter, readOn, writtenOn, stampedAfter, banksAfter};
 use crate::Banks;
 use crate::Bus;
 use crate::Each;
@@ -78,23 +78,8 @@ fn mr2_after(mr2: u8, command: Command) -> u8
     mr2
 }
 
-// A counter above 7 goes round as 7 does.
-fn counter_after(counter: u8, command: Command) -> u8
-    ensures { λ r. ⌜ r ≡ counterOn (commandOf command) counter ⌝ }
-{
-    match command {
-        Command::Refab => 0,
-        Command::Refpb => {
-            if 7 <= counter {
-                return 0;
-            }
-            counter + 1
-        }
-        _ => counter,
-    }
-}
-
-fn pushed(x: Four, t: u32) -> Four
+// The oldest of five is dropped.
+pub fn pushed(x: Four, t: u32) -> Four
     ensures { λ r. ⌜ r ≡ pushedOn t x ⌝ }
 {
     let at = x.at;
@@ -288,7 +273,7 @@ pub fn after(rec: Record, stamp: u32, command: Command, ledger: Ledger) -> Recor
     Record {
         card: card,
         mr2: mr2_after(mr2, command),
-        counter: counter_after(counter, command),
+        counter: pins::counter_after(counter, command),
         last: once_at(stamp),
         latest: latest_after(latest, command, stamp),
         bus: bus_after(bus, command, stamp, mr2),

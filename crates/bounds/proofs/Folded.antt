@@ -1,12 +1,10 @@
 -- The bounds one after the other: what the two loops over them are held to.
-use Prim.Native.Nat.{ℕ, suc, _+_, _-_, _≤_, _<_, max}
-use mathlib.Core.Path.{_≡_, refl, ap, sym, _∙_}
-use mathlib.Core.Bool.{Bool, true, false, cond}
+use Prim.Native.Nat.{ℕ, _+_, _-_, _≤_, _<_, max}
+use mathlib.Core.Path.{_≡_, ap, sym, _∙_}
 use mathlib.Core.List.{List, [], _∷_}
-use mathlib.Core.Option.{Option, none, some}
+use mathlib.Core.Option.{none, some}
 use native.Mathlib.Omega.{arith}
 use native.Mathlib.Numerals.{add-one}
-use lib.Dec.{leb}
 use lib.ListN.{length, getD, drop}
 use lib.Seq.{drop-length, drop-cons}
 use borrow.Author.Tests.{le-leb, lt-leb}
@@ -35,10 +33,10 @@ module _ (l : List ℕ) (i : ℕ) where
   all-hold t e h = sym (e ∙ rw (none-left h))
 
   -- the greatest of the first i
-  pub greater : (best : ℕ) → greatestOf l ≡ max best (greatestOf (drop i l)) → i < length l
+  pub greatest-next : (best : ℕ) → greatestOf l ≡ max best (greatestOf (drop i l)) → i < length l
       → greatestOf l ≡ max (max best (getD l i 0)) (greatestOf (drop (i + 1) l))
   unfolding greatestOf
-  greater best e h =
+  greatest-next best e h =
       let p : greatestOf (drop i l) ≡ max (getD l i 0) (greatestOf (drop (i + 1) l)) = rw (next h) in
       omega (arith, e, p)
 

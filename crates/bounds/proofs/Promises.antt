@@ -1,26 +1,26 @@
 -- The promise of each public function determines its answer.
-use Prim.Native.Nat.{ℕ}
 use mathlib.Core.Path.{_≡_, refl, sym, _∙_}
 use mathlib.Core.Option.{Option, none, some}
+use Rattle.rules.specs.Checks.{Refusal, refusal}
 use Rattle.rules.proofs.Determined.{tells, Promise, Determined, determined, fact-of}
-use Rattle.bounds.specs.Values.{brokenOf}
+use Rattle.bounds.specs.Values.{refusalOf}
 use Rattle.bounds.specs.declared.Broken.{Broken}
 use Rattle.bounds.specs.declared.Broken.the-variants.{Nothing, Rule}
 use Rattle.bounds.proofs.folds.first_broken as first-broken
 use Rattle.bounds.proofs.folds.first_cycle as first-cycle
 
-brokenIn : Option (ℕ × ℕ) → Broken
+brokenIn : Option Refusal → Broken
 brokenIn none = Nothing
-brokenIn (some x) = Rule (x .0) (x .1)
+brokenIn (some x) = Rule (x .rule) (x .cycle)
 
-back : (r : Broken) → brokenIn (brokenOf r) ≡ r
-unfolding brokenIn brokenOf
+back : (r : Broken) → brokenIn (refusalOf r) ≡ r
+unfolding brokenIn refusalOf refusal
 back Nothing = refl
 back (Rule q t) = refl
 
--- answers with the same rule and cycle are one
-one-broken : {z : Option (ℕ × ℕ)} (x y : Broken) → brokenOf x ≡ z → brokenOf y ≡ z → x ≡ y
-one-broken = tells brokenOf brokenIn back
+-- answers with the same numbers are one
+one-broken : {z : Option Refusal} (x y : Broken) → refusalOf x ≡ z → refusalOf y ≡ z → x ≡ y
+one-broken = tells refusalOf brokenIn back
 
 abbrev first-broken-says : Promise first-broken.ended
 first-broken-says w = first-broken.clauses (w .𝓤) (w .H) (w .𝓖 .A) (w .𝓜 .mem) (w .𝓡 .run)

@@ -1,7 +1,7 @@
 // What an entry permits, and the latest of what those of several banks do.
 ghost use mathlib.Core.Path.{_≡_};
 ghost use mathlib.Core.Bool.{cond};
-ghost use Prim.Native.Nat.{_<_, _^_, max};
+ghost use Prim.Native.Nat.{_<_, _^_};
 ghost use lib.Dec.{eqb};
 ghost use Rattle.rules.specs.Folds.{permittedBy};
 ghost use Rattle.rules.specs.Lent.{lookIn};
@@ -19,15 +19,6 @@ pub enum Lag {
     Plain,
     Written,
     Turned,
-}
-
-pub fn later(a: u64, b: u64) -> u64
-    ensures { λ r. ⌜ r ≡ max a b ⌝ }
-{
-    if a < b {
-        return b;
-    }
-    a
 }
 
 fn delay_by(lag: Lag, clocks: u64, mr2: u8) -> u64
@@ -82,7 +73,7 @@ pub fn since(rec: Record, ask: Ask, span: Span, lag: Lag, clocks: u64) -> u64
     let mut best: u64 = 0;
     let mut k: usize = 0;
     while k < count {
-        best = later(best, at_bank(rec, ask, first + k, span.but, lag, clocks));
+        best = card::greater(best, at_bank(rec, ask, first + k, span.but, lag, clocks));
         k += 1;
     }
     best

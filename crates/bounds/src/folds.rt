@@ -1,22 +1,22 @@
 // The first of the rules that is broken, and the first cycle at which none is.
 ghost use mathlib.Core.Path.{_≡_};
 ghost use Rattle.rules.specs.Folds as rules;
+ghost use Rattle.rules.specs.Checks.{named};
 ghost use Rattle.rules.specs.Delays.{delayRules};
 ghost use Rattle.rules.specs.Lent.{lookIn};
 ghost use Rattle.card.specs.Values.{clocksOf};
 ghost use Rattle.pins.specs.Values.{commandOf};
 ghost use Rattle.bank.specs.Values.{lentOf};
-ghost use Rattle.bounds.specs.Values.{brokenOf};
+ghost use Rattle.bounds.specs.Values.{refusalOf};
 ghost use Rattle.bounds.specs.Parts.{brokenFrom, greatestOf};
 use crate::Broken;
-use crate::delays::later;
 use crate::table::bounds;
 use bank::Record;
 use card::Delays;
 use pins::Command;
 
 fn broken(bounds: [u64; 18], stamp: u32) -> Broken
-    ensures { λ r. ⌜ brokenOf r ≡ brokenFrom 1 bounds stamp ⌝ }
+    ensures { λ r. ⌜ refusalOf r ≡ named 10 (brokenFrom 1 bounds stamp) ⌝ }
 {
     let t = stamp as u64;
     let mut i: u8 = 0;
@@ -39,7 +39,7 @@ fn greatest(bounds: [u64; 18]) -> u64
     let mut best: u64 = 0;
     let mut i: usize = 0;
     while i < 18 {
-        best = later(best, bounds[i]);
+        best = card::greater(best, bounds[i]);
         i += 1;
     }
     best
@@ -47,7 +47,7 @@ fn greatest(bounds: [u64; 18]) -> u64
 
 // 10: the lowest rule whose first permitted cycle is past the stamp, with that cycle.
 pub fn first_broken(rec: Record, delays: Delays, command: Command, stamp: u32) -> Broken
-    ensures { λ r. ⌜ brokenOf r ≡ rules.firstBroken (lookIn (lentOf rec .history)) (delayRules (clocksOf delays) (commandOf command) (rec .counter)) stamp ⌝ }
+    ensures { λ r. ⌜ refusalOf r ≡ named 10 (rules.firstBroken (lookIn (lentOf rec .history)) (delayRules (clocksOf delays) (commandOf command) (rec .counter)) stamp) ⌝ }
 {
     broken(bounds(rec, delays, command), stamp)
 }

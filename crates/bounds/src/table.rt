@@ -4,13 +4,13 @@ ghost use mathlib.Core.List.{[], _∷_};
 ghost use Rattle.bounds.specs.Parts.{boundsOf, boundOf};
 use crate::answers::Ask;
 use crate::delays::Lag;
-use crate::delays::later;
 use crate::delays::plain;
 use crate::delays::since;
 use crate::delays::wide;
 use crate::spans;
 use bank::Record;
 use card::Delays;
+use card::greater;
 use pins::Command;
 
 // The numbers of the kinds.
@@ -57,7 +57,7 @@ fn after_refpb(rec: Record, d: Delays, command: Command) -> u64
         rec.counter,
     );
     let own = spans::own_if((ACT == kind) | (PRE == kind), command, rec.counter);
-    later(
+    greater(
         plain(rec, Ask::Refpb, any, d.trfcpb),
         plain(rec, Ask::RefpbTo, own, d.trfcpb),
     )
@@ -96,7 +96,7 @@ fn other_banks(rec: Record, d: Delays, command: Command) -> u64
     let kind = spans::kind_of(command);
     let active = spans::others_if((ACT == kind) | (REFPB == kind), command, rec.counter);
     let act = spans::others_if(ACT == kind, command, rec.counter);
-    later(
+    greater(
         plain(rec, Ask::ActTo, active, d.trrd),
         plain(rec, Ask::RefpbTo, act, d.trrd),
     )
@@ -118,7 +118,7 @@ fn bursts(rec: Record, d: Delays, command: Command) -> u64
     let kind = spans::kind_of(command);
     let reading = spans::own_if((RD == kind) | (MRR == kind), command, rec.counter);
     let writing = spans::own_if(WR == kind, command, rec.counter);
-    later(
+    greater(
         plain(rec, Ask::Rd, reading, 4),
         plain(rec, Ask::Wr, writing, 4),
     )
@@ -143,7 +143,7 @@ fn after_rd(rec: Record, d: Delays, command: Command) -> [u64; 2]
 {
     let named = spans::named(command);
     let idle = spans::idle(command, rec.counter);
-    let least = later(4, wide(d.trtp));
+    let least = greater(4, wide(d.trtp));
     [
         since(rec, Ask::RdTo, named, Lag::Plain, least),
         since(rec, Ask::RdaTo, idle, Lag::Plain, least + wide(d.trppb)),

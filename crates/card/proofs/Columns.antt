@@ -1,15 +1,12 @@
 -- The fourteen timings, by their place in the card's two columns.
-use Prim.Native.Nat.{ℕ, zero, suc, _+_, _-_, _<_}
+use Prim.Native.Nat.{ℕ, _+_, _-_, _<_}
 use mathlib.Core.Path.{_≡_, refl, _∙_}
-use mathlib.Core.Bool.{Bool, _&&_}
-use mathlib.Core.List.{List, [], _∷_}
+use mathlib.Core.List.{List}
 use native.Mathlib.Omega.{arith}
-use native.Mathlib.Numerals.{add-one}
 use lib.ListN.{length, getD, set}
 use lib.Seq.{getD-set-same, getD-set-other}
 use borrow.Author.Count.{below-more}
 use Rattle.rules.specs.Lists.{all}
-use Rattle.rules.specs.Card.{Timing}
 use Rattle.rules.specs.Units.{n}
 use Rattle.rules.specs.Ranges.{timingGood, timings}
 use Rattle.rules.proofs.Onward.{onward}

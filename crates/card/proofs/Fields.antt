@@ -11,11 +11,13 @@ use lib.Seq.{getD-set-same, getD-set-other}
 use borrow.Author.Tests.{ne-eqb, eqb-true}
 use Rattle.rules.specs.Card as paper
 use Rattle.rules.specs.Ranges.{timings, within}
+use Rattle.rules.specs.Folds.{orElse, firstOf}
+use Rattle.rules.specs.Checks.{refusal, unless}
 use Rattle.rules.specs.Form as form
 use Rattle.rules.proofs.Onward.{onward, at-each}
 use Rattle.rules.proofs.Tests.{le-cases, eq-cases}
 use Rattle.card.specs.Values.{timingIn, cardOf}
-use Rattle.card.specs.Reading.{good, put, answer, taken, readOf, blankCard}
+use Rattle.card.specs.Reading.{good, put, readRefusal, numberOf, unlessRefused, answer, readOf, blankCard}
 use Rattle.card.specs.declared.Card.{Card}
 
 -- a card's four numbers and its fourteen timings, by their place
@@ -169,5 +171,13 @@ pub read-field : (card : Card) (fs : List form.Field) (f : form.Field) → Holds
     → within 1 18 (f .tag) ≡ true → form.lengthGood (f .tag) (length (f .value)) ≡ true
     → readOf card (f .tag) (f .value)
     ≡ cond (form.fieldGood fs f) (answer 0 (put card (f .tag) (form.number (f .value)) (form.timingOf (f .value)))) (answer 4 card)
-unfolding readOf taken
-read-field card fs f h tag size = rw (tag, size, good-field card fs f h)
+unfolding readOf
+read-field card fs f h tag size = go (form.fieldGood fs f) (good-field card fs f h)
+  where
+    next : Card
+    next = put card (f .tag) (form.number (f .value)) (form.timingOf (f .value))
+
+    go : (b : Bool) → good (card .period) (f .tag) (form.number (f .value)) (form.timingOf (f .value)) ≡ b
+        → answer (numberOf (readRefusal card (f .tag) (f .value))) (unlessRefused (readRefusal card (f .tag) (f .value)) card next) ≡ cond b (answer 0 next) (answer 4 card)
+    go true e = unfold readRefusal firstOf orElse unless numberOf unlessRefused in rw (tag, size, e)
+    go false e = unfold readRefusal firstOf orElse unless refusal numberOf unlessRefused in rw (tag, size, e)

@@ -47,14 +47,14 @@ module _ (card : Card) (good : cardGood (cardOf card) ≡ true) where
       (leb-true p 100_000 high, λ k lt. small (timingIn card k) (at-each (λ j. timingGood (timingIn card j)) 0 14 every k (omega arith) (omega arith)))
 
   timing-fits : (k : ℕ) → k < 14 → clipped (n (cardOf card) (timingIn card k)) ≡ n (cardOf card) (timingIn card k)
-  unfolding clipped n cardOf
+  unfolding n cardOf
   timing-fits k lt =
       let (p, each) = in-range in
       let x = each k lt in
       omega (arith, p, x .duration, x .floor, rounded-le (timingIn card k .duration) (card .period))
 
   row-fits : clipped (rowCycle (cardOf card)) ≡ rowCycle (cardOf card)
-  unfolding clipped rowCycle cardOf
+  unfolding rowCycle cardOf
   row-fits =
       let (p, each) = in-range in
       let a = each 3 (lit< tt) in

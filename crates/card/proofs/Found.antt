@@ -1,13 +1,18 @@
--- The row that a code picks in the rules' table tells what the rules say of the code.
-use Prim.Native.Nat.{ℕ, _%_}
+-- The row that a code picks in the rules' table: found in the code's table, or by the arms of a match. It tells what the rules say of the code.
+use Prim.Native.Nat.{ℕ, _+_, _%_, _<_}
 use mathlib.Core.Path.{_≡_, refl, ap, sym, _∙_}
 use mathlib.Core.Bool.{Bool, true, false, cond}
-use mathlib.Core.List.{List, [], _∷_}
+use mathlib.Core.List.{List, [], _∷_, map}
+use native.Mathlib.Numerals.{add-one}
 use native.Mathlib.Omega.{arith}
 use lib.Dec.{leb, eqb}
+use lib.ListN.{length, getD, drop}
+use lib.Seq.{drop-cons}
+use borrow.Author.Tests.{ne-eqb}
 use Rattle.rules.specs.Bits.{bits, on}
 use Rattle.rules.specs.Registers.{Latency, latencies, atCode, rlOf, wlOf}
-use Rattle.card.specs.Rows.{rowOf, foundAt}
+use Rattle.card.specs.Rows.{rowOf, foundBy, foundAt}
+use Rattle.card.specs.declared.registers.Row.{Row}
 use Rattle.card.specs.declared.registers.Found.{Found}
 use Rattle.card.specs.declared.registers.Found.the-variants.{At, Nothing}
 
@@ -25,7 +30,7 @@ at-told h k g d (x ∷ xs) = pick (eqb (x .code) k) (at-told h k g d xs)
 -- what the rules tell of a code's row is told of the row that is found
 pub told : {B : Type 0} (h : Found → B) (v : ℕ) (f : Found) → foundAt v ≡ f
     → h f ≡ atCode (bits v 0 4) (λ x. h (At (rowOf x))) (h Nothing) latencies
-unfolding foundAt
+unfolding foundAt foundBy
 told h v f e = ap h (sym e) ∙ at-told h (bits v 0 4) (λ x. At (rowOf x)) Nothing latencies
 
 -- what the code goes by: the least period, RL and WL
@@ -45,11 +50,44 @@ pub latency-found : (v : ℕ) (f : Found) → foundAt v ≡ f → (rlIn f ≡ rl
 unfolding rlIn wlIn rlOf wlOf rowOf
 latency-found v f e = (told rlIn v f e, told (wlIn v) v f e)
 
-code-of : (v : ℕ) → bits v 0 4 ≡ v % 16
-unfolding bits
-code-of v = omega arith
+-- by the code alone
+pub found-by : (v k : ℕ) → v % 16 ≡ k → foundBy k ≡ foundAt v
+unfolding foundAt bits
+found-by v k e = let c : k ≡ bits v 0 4 = omega arith in ap foundBy c
 
--- the row by the code
-pub found-by : (v k : ℕ) → v % 16 ≡ k → foundAt v ≡ atCode k (λ x. At (rowOf x)) Nothing latencies
-unfolding foundAt
-found-by v k e = ap (λ (j : ℕ). atCode j (λ x. At (rowOf x)) Nothing latencies) (code-of v ∙ e)
+-- ---- in a table
+-- the first of these rows that has the code
+unfoldable pub firstIn : ℕ → List Row → Found
+firstIn k [] = Nothing
+firstIn k (x ∷ xs) = cond (eqb (x .0) k) (At x) (firstIn k xs)
+
+pub first-is : (k : ℕ) (xs : List Latency) → firstIn k (map rowOf xs) ≡ atCode k (λ x. At (rowOf x)) Nothing xs
+unfolding firstIn atCode rowOf
+first-is k [] = refl
+first-is k (x ∷ xs) = rw (first-is k xs)
+
+abbrev pub noRow : Row
+noRow = record { 0 = 0; 1 = 0; 2 = 0; 3 = 0; 4 = 0 }
+
+-- among the rows from place i on
+pub first-from : (k : ℕ) (xs : List Row) (i : ℕ) → i < length xs
+    → firstIn k (drop i xs) ≡ cond (eqb (getD xs i noRow .0) k) (At (getD xs i noRow)) (firstIn k (drop (i + 1) xs))
+unfolding firstIn
+first-from k xs i h = rw (add-one, drop-cons xs i noRow h)
+
+-- ---- by the arms of a match
+-- k is the code of none of these rows, as a match's last arm has it
+unfoldable pub Missed : Type 0 → ℕ → List Latency → Type 0
+Missed T k [] = T
+Missed T k (x ∷ xs) = Missed (T × (k ≡ x .code → ⊥)) k xs
+
+missed : {T A : Type 0} (k : ℕ) (g : Latency → A) (d : A) (xs : List Latency) → Missed T k xs → T × (atCode k g d xs ≡ d)
+unfolding Missed atCode
+missed k g d [] m = (m, refl)
+missed k g d (x ∷ xs) m =
+    let p = missed k g d xs m in
+    (p .0 .0, rw (ne-eqb (x .code) k (λ e. p .0 .1 (sym e))) (p .1))
+
+pub found-none : (v : ℕ) → Missed (Unit {0}) (v % 16) latencies → Nothing ≡ foundAt v
+unfolding foundBy
+found-none v m = sym (missed (v % 16) (λ x. At (rowOf x)) Nothing latencies m .1) ∙ found-by v (v % 16) refl

@@ -4,12 +4,14 @@ use Rattle.rules.specs.Units as paper
 use Rattle.rules.proofs.Determined.{Promise, Determined, determined, fact-of}
 use Rattle.card.specs.Values.{clocksOf}
 use Rattle.card.specs.declared.Delays.{Delays}
+use Rattle.card.proofs.Told.{read-is}
 use Rattle.card.proofs.ranges.in_range as in-range
 use Rattle.card.proofs.registers.latency_of as latency-of
-use Rattle.card.proofs.registers.may_write as may-write
+use Rattle.card.proofs.registers.mrw_value_good as mrw-value-good
 use Rattle.card.proofs.registers.mr2_good as mr2-good
 use Rattle.card.proofs.timings.delays_of as delays-of
 use Rattle.card.proofs.timings.interval as interval
+use Rattle.card.proofs.units.greater as greater
 use Rattle.card.proofs.benched.bench as bench
 use Rattle.card.proofs.values.blank as blank
 use Rattle.card.proofs.values.length_good as length-good
@@ -27,11 +29,11 @@ mr2-good-says w = mr2-good.clauses (w .𝓤) (w .H) (w .𝓖 .A) (w .𝓜 .mem) 
 pub mr2-good-determined : Determined mr2-good.ended mr2-good-says
 mr2-good-determined = determined mr2-good.ended mr2-good-says (λ κs a r e. fact-of _) (λ κs a r r′ ws ws′ p p′. (p ∙ sym p′, refl))
 
-abbrev may-write-says : Promise may-write.ended
-may-write-says w = may-write.clauses (w .𝓤) (w .H) (w .𝓖 .A) (w .𝓜 .mem) (w .𝓡 .run)
+abbrev mrw-value-good-says : Promise mrw-value-good.ended
+mrw-value-good-says w = mrw-value-good.clauses (w .𝓤) (w .H) (w .𝓖 .A) (w .𝓜 .mem) (w .𝓡 .run)
 
-pub may-write-determined : Determined may-write.ended may-write-says
-may-write-determined = determined may-write.ended may-write-says (λ κs a r e. fact-of _) (λ κs a r r′ ws ws′ p p′. (p ∙ sym p′, refl))
+pub mrw-value-good-determined : Determined mrw-value-good.ended mrw-value-good-says
+mrw-value-good-determined = determined mrw-value-good.ended mrw-value-good-says (λ κs a r e. fact-of _) (λ κs a r r′ ws ws′ p p′. (p ∙ sym p′, refl))
 
 abbrev latency-of-says : Promise latency-of.ended
 latency-of-says w = latency-of.clauses (w .𝓤) (w .H) (w .𝓖 .A) (w .𝓜 .mem) (w .𝓡 .run)
@@ -46,6 +48,12 @@ interval-says w = interval.clauses (w .𝓤) (w .H) (w .𝓖 .A) (w .𝓜 .mem) 
 
 pub interval-determined : Determined interval.ended interval-says
 interval-determined = determined interval.ended interval-says (λ κs a r e. fact-of _) (λ κs a r r′ ws ws′ p p′. (p ∙ sym p′, refl))
+
+abbrev greater-says : Promise greater.ended
+greater-says w = greater.clauses (w .𝓤) (w .H) (w .𝓖 .A) (w .𝓜 .mem) (w .𝓡 .run)
+
+pub greater-determined : Determined greater.ended greater-says
+greater-determined = determined greater.ended greater-says (λ κs a r e. fact-of _) (λ κs a r r′ ws ws′ p p′. (p ∙ sym p′, refl))
 
 -- the delays with these numbers
 delaysIn : paper.Delays → Delays
@@ -103,4 +111,4 @@ read-value-says w = read-value.clauses (w .𝓤) (w .H) (w .𝓖 .A) (w .𝓜 .m
 
 pub read-value-determined : Determined read-value.ended read-value-says
 read-value-determined =
-    determined read-value.ended read-value-says (λ κs a r e. fact-of _) (λ κs a r r′ ws ws′ p p′. (p ∙ sym p′, refl))
+    determined read-value.ended read-value-says (λ κs a r e. fact-of _) (λ κs a r r′ ws ws′ p p′. (read-is _ _ _ r p ∙ sym (read-is _ _ _ r′ p′), refl))

@@ -1,12 +1,16 @@
 -- What the value of a card's field makes of a card: refusal 2 (tag), 3 (length), 4 (range), or the card with the value in it.
 use Prim.Native.Nat.{ℕ, _-_}
+use mathlib.Core.Path.{_≡_}
 use mathlib.Core.Bool.{Bool, cond, _||_}
-use mathlib.Core.List.{List}
+use mathlib.Core.List.{List, [], _∷_}
+use mathlib.Core.Option.{Option, none, some}
 use lib.Dec.{leb, eqb}
 use lib.ListN.{length, set, replicate}
 use Rattle.rules.specs.Card as paper
 use Rattle.rules.specs.Registers.{mr2Good}
 use Rattle.rules.specs.Ranges.{within, periodGood, groupsGood, trefiGood, timingGood}
+use Rattle.rules.specs.Folds.{firstOf}
+use Rattle.rules.specs.Checks.{Refusal, unless}
 use Rattle.rules.specs.Form.{number, timingOf, lengthGood}
 use Rattle.card.specs.declared.Card.{Card}
 use Rattle.card.specs.declared.Read.{Read}
@@ -34,17 +38,40 @@ put c t x y = record {
   floors = cond (leb t 4) (c .floors) (set (c .floors) (t - 5) (y .floor));
 }
 
+-- what is refused, by document 01's numbers: the tag, the length, the range
+unfoldable pub readRefusal : Card → (tag : ℕ) → List ℕ → Option Refusal
+readRefusal c t v =
+    firstOf (unless (within 1 18 t) 2 ∷ unless (lengthGood t (length v)) 3 ∷ unless (good (c .period) t (number v) (timingOf v)) 4 ∷ [])
+
+-- the numbers that the code's one stands for; 0 is none
+unfoldable pub refusalOf : ℕ → Option Refusal
+refusalOf k = unless (eqb k 0) k
+
+-- and back
+unfoldable pub numberOf : Option Refusal → ℕ
+numberOf none = 0
+numberOf (some x) = x .number
+
+-- the old one, where it is refused
+unfoldable pub unlessRefused : {A : Type 0} → Option Refusal → A → A → A
+unlessRefused none old new = new
+unlessRefused (some x) old new = old
+
+-- this refusal, or none, is told, and the card then is the one with the value in it, or on a refusal the old one
+pub record ReadAs (c : Card) (t : ℕ) (v : List ℕ) (r : Read) : Type 0 where
+  pub told : refusalOf (r .refusal) ≡ readRefusal c t v
+  pub card : r .card ≡ unlessRefused (readRefusal c t v) c (put c t (number v) (timingOf v))
+
 abbrev pub answer : ℕ → Card → Read
 answer n c = record { refusal = n; card = c }
 
+-- the answer so told (proofs/Told, `read-is`)
+unfoldable pub readOf : Card → (tag : ℕ) → List ℕ → Read
+readOf c t v = answer (numberOf (readRefusal c t v)) (unlessRefused (readRefusal c t v) c (put c t (number v) (timingOf v)))
+
+-- a value of its tag's length, by its numbers
 unfoldable pub taken : Card → (tag x : ℕ) → paper.Timing → Read
 taken c t x y = cond (good (c .period) t x y) (answer 0 (put c t x y)) (answer 4 c)
-
-unfoldable pub readOf : Card → (tag : ℕ) → List ℕ → Read
-readOf c t v =
-    cond (within 1 18 t)
-    (cond (lengthGood t (length v)) (taken c t (number v) (timingOf v)) (answer 3 c))
-    (answer 2 c)
 
 unfoldable pub blankCard : Card
 blankCard = record { period = 0; mr2 = 0; groups = 0; trefi = 0; durations = replicate 14 0; floors = replicate 14 0 }

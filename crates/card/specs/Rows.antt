@@ -11,9 +11,13 @@ use Rattle.card.specs.declared.registers.Found.the-variants.{At, Nothing
 unfoldable pub rowOf : paper.Latency → Row
 rowOf x = record { 0 = x .code; 1 = x .least; 2 = x .rl; 3 = x .wlA; 4 = x .wlB }
 
+-- the row with this code
+unfoldable pub foundBy : ℕ → Found
+foundBy k = paper.atCode k (λ x. At (rowOf x)) Nothing paper.latencies
+
 -- the row that OP3-0 of this MR2 picks
 unfoldable pub foundAt : ℕ → Found
-foundAt v = paper.atCode (bits v 0 4) (λ x. At (rowOf x)) Nothing paper.latencies
+foundAt v = foundBy (bits v 0 4)
 
 -- OP3-0 of this MR2 is a code whose least period does not exceed this one
 unfoldable pub codeGood : (period mr2 : ℕ) → Bool

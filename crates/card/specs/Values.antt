@@ -4,11 +4,7 @@ use lib.ListN.{getD}
 use Rattle.rules.specs.Card as paper
 use Rattle.rules.specs.Units as units
 use Rattle.card.specs.declared.Card.{Card}
-use Rattle.card.specs.declared.Clocks.{Clocks}
 use Rattle.card.specs.declared.Delays.{Delays}
-
-abbrev pub clk : ℕ → Clocks
-clk k = record { 0 = k }
 
 abbrev pub timing : (duration floor : ℕ) → paper.Timing
 timing d f = record { duration = d; floor = f }
@@ -59,7 +55,7 @@ clocksOf d = record {
 }
 
 -- in 32 bits: the most that they hold stands for anything beyond, which no card in range comes to (proofs/Fits)
-unfoldable pub clipped : ℕ → ℕ
+abbrev pub clipped : ℕ → ℕ
 clipped k = min k 4_294_967_295
 
 unfoldable pub shortened : units.Delays → units.Delays

@@ -12,8 +12,37 @@ pub enum Found {
     Nothing,
 }
 
-// The row that OP3-0 of MR2 picks. Arms, since an array would be laid out anew at each call.
-fn find(mr2: u8) -> Found
+const ROWS: [Row; 9] = [
+    Row(0b0001, 6000, 3, 1, 1),
+    Row(0b0100, 2500, 6, 3, 3),
+    Row(0b0110, 1875, 8, 4, 4),
+    Row(0b0111, 1670, 9, 5, 5),
+    Row(0b1000, 1500, 10, 6, 8),
+    Row(0b1001, 1360, 11, 6, 9),
+    Row(0b1010, 1250, 12, 6, 9),
+    Row(0b1100, 1071, 14, 8, 11),
+    Row(0b1110, 938, 16, 8, 13),
+];
+
+// The row that OP3-0 of MR2 picks.
+fn search(mr2: u8) -> Found
+    ensures { λ r. ⌜ r ≡ foundAt mr2 ⌝ }
+{
+    let rows = ROWS;
+    let code = mr2 % 16;
+    let mut i: usize = 0;
+    while i < 9 {
+        let row = rows[i];
+        if row.0 == code {
+            return Found::At(row);
+        }
+        i += 1;
+    }
+    Found::Nothing
+}
+
+// The same row by arms, for a delay: the table would be laid out anew at each.
+fn row_at(mr2: u8) -> Found
     ensures { λ r. ⌜ r ≡ foundAt mr2 ⌝ }
 {
     match mr2 % 16 {
@@ -34,7 +63,7 @@ fn find(mr2: u8) -> Found
 fn code_good(period: u32, mr2: u8) -> bool
     ensures { λ r. ⌜ r ≡ codeGood period mr2 ⌝ }
 {
-    match find(mr2) {
+    match search(mr2) {
         Found::At(row) => row.1 <= period,
         Found::Nothing => false,
     }
@@ -50,7 +79,7 @@ pub fn mr2_good(period: u32, value: u8) -> bool
 pub fn latency_of(mr2: u8) -> Latency
     ensures { λ r. ⌜ (r .rl ≡ rlOf mr2) × (r .wl ≡ wlOf mr2) ⌝ }
 {
-    match find(mr2) {
+    match row_at(mr2) {
         Found::At(row) => {
             if mr2 / 64 % 2 == 1 {
                 Latency {
@@ -68,7 +97,8 @@ pub fn latency_of(mr2: u8) -> Latency
     }
 }
 
-pub fn may_write(period: u32, ma: u8, op: u8) -> bool
+// What 9 asks of a value: only MA 1 and 2 ask anything of it; whether an MA is listed is 7's question.
+pub fn mrw_value_good(period: u32, ma: u8, op: u8) -> bool
     ensures { λ r. ⌜ r ≡ mayWrite period ma op ⌝ }
 {
     if ma == 1 {

@@ -10,7 +10,7 @@ use crate::Delays;
 use crate::Picoseconds;
 use crate::units::Timing;
 use crate::units::least_clocks;
-use crate::units::rounded_up;
+use crate::units::whole_periods;
 
 fn picoseconds(x: u32) -> Picoseconds
     ensures { λ r. ⌜ (r .0 ≡ x) × (r .0 < 2 ^ 32) ⌝ }
@@ -65,9 +65,9 @@ fn all_clocks(card: Card) -> [u32; 14]
     out
 }
 
-// tRC
-fn row_cycle(card: Card) -> u32
-    ensures { λ r. ⌜ r ≡ clipped (paper.rowCycle (cardOf card)) ⌝ }
+// tRAS and tRPpb as one timing: both durations and both floors summed.
+fn joined_clocks(card: Card) -> Clocks
+    ensures { λ r. ⌜ r .0 ≡ paper.rowCycle (cardOf card) ⌝ }
 {
     let ras = timing(card, 3);
     let rp = timing(card, 1);
@@ -75,7 +75,14 @@ fn row_cycle(card: Card) -> u32
         duration: Picoseconds(ras.duration.0 + rp.duration.0),
         floor: Clocks(ras.floor.0 + rp.floor.0),
     };
-    short(least_clocks(both, picoseconds(card.period)))
+    least_clocks(both, picoseconds(card.period))
+}
+
+// tRC
+fn row_cycle(card: Card) -> u32
+    ensures { λ r. ⌜ r ≡ clipped (paper.rowCycle (cardOf card)) ⌝ }
+{
+    short(joined_clocks(card))
 }
 
 pub fn delays_of(card: Card) -> Delays
@@ -102,14 +109,9 @@ pub fn delays_of(card: Card) -> Delays
     }
 }
 
-// I, the whole periods within tREFI: one fewer than a picosecond more needs. 0 where the period is 0.
+// I
 pub fn interval(card: Card) -> u32
     ensures { λ r. ⌜ r ≡ paper.interval (cardOf card) ⌝ }
 {
-    let trefi = picoseconds(card.trefi);
-    let over = rounded_up(Picoseconds(trefi.0 + 1), picoseconds(card.period));
-    if over.0 == 0 {
-        return 0;
-    }
-    (over.0 - 1) as u32
+    whole_periods(picoseconds(card.trefi), picoseconds(card.period)).0 as u32
 }

@@ -1,8 +1,7 @@
 // Durations in picoseconds, lengths in clocks, and the one rounding that turns the first into the second.
 ghost use mathlib.Core.Path.{_≡_};
-ghost use Prim.Native.Nat.{_+_, _<_, _^_, max};
+ghost use Prim.Native.Nat.{_+_, _/_, _<_, _^_, max};
 ghost use Rattle.rules.specs.Units.{roundedUp};
-ghost use Rattle.card.specs.Values.{clk};
 use crate::Clocks;
 use crate::Picoseconds;
 
@@ -14,7 +13,7 @@ pub struct Timing {
 // 0 where the period is 0.
 pub fn rounded_up(d: Picoseconds, period: Picoseconds) -> Clocks
     requires { ⌜ d .0 + period .0 < 2 ^ 64 ⌝ }
-    ensures { λ r. ⌜ r ≡ clk (roundedUp (d .0) (period .0)) ⌝ }
+    ensures { λ r. ⌜ r .0 ≡ roundedUp (d .0) (period .0) ⌝ }
 {
     if period.0 == 0 {
         return Clocks(0);
@@ -22,14 +21,29 @@ pub fn rounded_up(d: Picoseconds, period: Picoseconds) -> Clocks
     Clocks((d.0 + (period.0 - 1)) / period.0)
 }
 
+// The whole periods within a duration: one fewer than a picosecond more needs. 0 where the period is 0.
+pub fn whole_periods(d: Picoseconds, period: Picoseconds) -> Clocks
+    requires { ⌜ d .0 + 1 + period .0 < 2 ^ 64 ⌝ }
+    ensures { λ r. ⌜ r .0 ≡ d .0 / period .0 ⌝ }
+{
+    let over = rounded_up(Picoseconds(d.0 + 1), period);
+    if over.0 == 0 {
+        return over;
+    }
+    Clocks(over.0 - 1)
+}
+
+pub fn greater(a: u64, b: u64) -> u64
+    ensures { λ r. ⌜ r ≡ max a b ⌝ }
+{
+    if a < b { b } else { a }
+}
+
 // The greater of the floor and the duration over the period, rounded up.
 pub fn least_clocks(x: Timing, period: Picoseconds) -> Clocks
     requires { ⌜ x .duration .0 + period .0 < 2 ^ 64 ⌝ }
-    ensures { λ r. ⌜ r ≡ clk (max (x .floor .0) (roundedUp (x .duration .0) (period .0))) ⌝ }
+    ensures { λ r. ⌜ r .0 ≡ max (x .floor .0) (roundedUp (x .duration .0) (period .0)) ⌝ }
 {
     let n = rounded_up(x.duration, period);
-    if x.floor.0 < n.0 {
-        return n;
-    }
-    x.floor
+    Clocks(greater(x.floor.0, n.0))
 }

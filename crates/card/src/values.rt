@@ -125,7 +125,7 @@ fn taken(card: Card, tag: u8, x: u32, floor: u8) -> Read
 }
 
 pub fn read_value(card: Card, tag: u8, value: &[u8]) -> Read
-    ensures { λ r. ⌜ r ≡ reading.readOf card tag (now (value .entry)) ⌝ }
+    ensures { λ r. ⌜ reading.ReadAs card tag (now (value .entry)) r ⌝ }
 {
     if !((1 <= tag) & (tag <= 18)) {
         return Read {

@@ -1,8 +1,8 @@
 // Judges each file that an argument names, up to 65,536 bytes of it: its name; its lines and its verdict, from pieces of 7 bytes; the verdict of the whole once more.
 // Behind the word --cuts: the name, and the verdict of every cut, from no bytes to all. The files, and what must come out, are written by expected.py.
-use judge::State;
-use judge::Verdict;
-use judge::What;
+use chunks::State;
+use chunks::Verdict;
+use chunks::What;
 use libc::STDOUT_FILENO;
 
 // A file half judged: the bytes before `at` are, and those from `end` on are still to come.
@@ -15,7 +15,7 @@ struct Walk {
 
 fn say(verdict: Verdict) {
     let mut line = [0u8; 64];
-    let size = judge::verdict_line(&mut line, verdict);
+    let size = chunks::verdict_line(&mut line, verdict);
     put(&line, size);
 }
 
@@ -58,7 +58,7 @@ fn piece(walk: Walk, file: &[u8]) -> Walk {
         return walk;
     }
     let mut line = [0u8; 64];
-    let fed = judge::feed(state, &file[at..end], &mut line, false);
+    let fed = chunks::feed(state, &file[at..end], &mut line, false);
     put(&line, fed.wrote);
     let what = fed.what;
     let next = fed.state;
@@ -78,7 +78,7 @@ fn piece(walk: Walk, file: &[u8]) -> Walk {
 fn more(state: State, file: &[u8], at: usize, end: usize) -> Walk {
     if file.len() <= end {
         if at <= file.len() {
-            return over(state, judge::finish(state, &file[at..]));
+            return over(state, chunks::finish(state, &file[at..]));
         }
     }
     Walk {
@@ -92,7 +92,7 @@ fn more(state: State, file: &[u8], at: usize, end: usize) -> Walk {
 fn pieces(file: &[u8]) {
     let mut walk = Walk {
         going: true,
-        state: judge::start(),
+        state: chunks::start(),
         at: 0,
         end: 0,
     };

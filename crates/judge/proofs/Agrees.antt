@@ -10,20 +10,31 @@ use lib.ListN.{length, drop, length-drop}
 use borrow.Author.Tests.{lt-leb}
 use Rattle.rules.specs.Past.{Past}
 use Rattle.rules.specs.Form.{Field}
-use Rattle.rules.specs.File.{FileVerdict, refused, Step, ends, closing, stepOf, Judged, fileFrom}
+use Rattle.rules.specs.File.{FileVerdict, refused, Step, goesOn, ends, closing, stepOf, Judged, fileFrom}
 use Rattle.rules.specs.Lines.{entryLines}
 use Rattle.rules.proofs.Tests.{nowhere}
-use Rattle.judge.specs.declared.State.{State}
-use Rattle.judge.specs.declared.What.the-variants.{Full}
-use Rattle.judge.specs.declared.fields.Took.{Took}
-use Rattle.judge.specs.Values.{verdictOf}
-use Rattle.judge.specs.Took.{refusedBy, behindTook, tookOf}
-use Rattle.judge.specs.Heard.{Heard, behind, heardFrom, endedAt, overAt}
-use Rattle.judge.proofs.Overflow.{Bytes, bytes-drop}
+use Rattle.chunks.specs.declared.State.{State}
+use Rattle.chunks.specs.declared.What.the-variants.{Full}
+use Rattle.chunks.specs.declared.fields.Took.{Took}
+use Rattle.chunks.specs.Values.{verdictOf}
+use Rattle.chunks.specs.Took.{refusedBy, behindTook, tookOf}
+use Rattle.chunks.specs.Heard.{Heard, behind, heardFrom, endedAt, overAt}
+use Rattle.chunks.proofs.Bytes.{Bytes, bytes-drop}
+use Rattle.chunks.proofs.Turns.{lineIf, heard-full, heard-on, heard-waits, heard-ends, what-behind}
 use Rattle.judge.proofs.Stands.{Stands, read-small}
 use Rattle.judge.proofs.StandsEnd.{Ended}
 use Rattle.judge.proofs.Moves.{Moves, waits, stopped, goes, closes, moves}
-use Rattle.judge.proofs.Turns.{lineIf, heard-full, heard-on, heard-waits, heard-ends, what-behind, file-on, file-ends}
+
+-- ---- one turn of the rules' file
+module _ (k : ℕ) (fs : List Field) (past : Past) (at : ℕ) (bs : List ℕ) where
+  file-on : {fs′ : List Field} {past′ : Past} {at′ : ℕ} {rest : List ℕ} → stepOf fs past at bs ≡ goesOn fs′ past′ at′ rest →
+      fileFrom (suc k) fs past at bs ≡ fileFrom k fs′ past′ at′ rest
+  unfolding fileFrom
+  file-on e = rw (e, fileFrom)
+
+  file-ends : {v : FileVerdict} → stepOf fs past at bs ≡ ends v → fileFrom (suc k) fs past at bs ≡ record { past = past; verdict = v }
+  unfolding fileFrom
+  file-ends e = rw (e, fileFrom)
 
 -- ---- behind the end field: the verdict, or 12 for any byte
 pub record Closed (v : FileVerdict) (at : ℕ) (bs : List ℕ) (h : Heard) : Type 0 where

@@ -6,17 +6,18 @@ use mathlib.Core.Bool.{Bool, false}
 use mathlib.Core.List.{List, [], _++_, append-assoc, append-nil}
 use lib.ListN.{drop}
 use lib.Seq.{drop-append-le, drop-drop}
-use Rattle.judge.specs.declared.State.{State}
-use Rattle.judge.specs.declared.Verdict.{Verdict}
-use Rattle.judge.specs.declared.What.{What}
-use Rattle.judge.specs.declared.What.the-variants.{More, Full, Over}
-use Rattle.judge.specs.declared.fields.Move.{Move}
-use Rattle.judge.specs.declared.fields.Move.the-variants.{On, Wait, End}
-use Rattle.judge.specs.Took.{tookOf}
-use Rattle.judge.specs.Heard.{startOf, lineOf, Heard, behind, heardOf, finishedOf}
-use Rattle.judge.proofs.Prefix.{on-wait, end-wait, took-stays, line-stays, taken-size}
-use Rattle.judge.proofs.Turns.{lineIf}
-use Rattle.judge.proofs.Walks.{Walk, stops-full, stops-more, stops-over, takes, walk}
+use Rattle.chunks.specs.declared.State.{State}
+use Rattle.chunks.specs.declared.Verdict.{Verdict}
+use Rattle.chunks.specs.declared.What.{What}
+use Rattle.chunks.specs.declared.What.the-variants.{More, Full, Over}
+use Rattle.chunks.specs.declared.fields.Move.{Move}
+use Rattle.chunks.specs.declared.fields.Move.the-variants.{On, Wait, End}
+use Rattle.chunks.specs.Took.{tookOf}
+use Rattle.chunks.specs.Heard.{startOf, lineOf, Heard, behind, heardOf, finishedOf}
+use Rattle.chunks.proofs.Turns.{lineIf}
+use Rattle.chunks.proofs.Advances.{wait-on, taken-size}
+use Rattle.chunks.proofs.Walks.{Walk, stops-full, stops-more, stops-over, takes, walk}
+use Rattle.judge.proofs.Prefix.{end-wait, took-stays, line-stays}
 use Rattle.judge.proofs.Outcome.{textOf, text-on, text-wait, text-end, finished-on, finished-end}
 
 -- ---- why a call came back, at the state and the bytes that it left
@@ -49,7 +50,7 @@ module _ {X : Type 0} (q : Bool) (out : State → List ℕ → X) (after : List 
   first-ahead : (st : State) (bs : List ℕ) (n : ℕ) → tookOf st bs .how ≡ On n → (ys : List ℕ) →
       out st (bs ++ ys) ≡ after (lineIf q st bs) (out (tookOf st bs .state) (drop n bs ++ ys))
   first-ahead st bs n e ys =
-      let t : tookOf st (bs ++ ys) ≡ tookOf st bs = took-stays st bs (λ w. on-wait (sym e ∙ w)) ys in
+      let t : tookOf st (bs ++ ys) ≡ tookOf st bs = took-stays st bs (λ w. wait-on (sym w ∙ e)) ys in
       let l : lineOf st (bs ++ ys) ≡ lineOf st bs = line-stays st bs n e ys in
       let d : drop n (bs ++ ys) ≡ drop n bs ++ ys = drop-append-le n bs ys (taken-size st bs n e .1) in
       f .first st (bs ++ ys) n (rw t e) ∙ rw (t, l, d)

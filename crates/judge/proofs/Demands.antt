@@ -1,38 +1,30 @@
--- Demands 2 and 3 of a verdict of the code that is the rules' own (proofs/Whole: the judge's is).
+-- Demands 2 and 3 of any verdict that keeps the promise of `judge`. The promise is read off its generated contract.
 use Prim.Native.Nat.{ℕ, _+_, _*_, _-_, _/_, _≤_, _<_}
-use mathlib.Core.Path.{_≡_, refl, ap, sym, _∙_}
+use mathlib.Core.Path.{_≡_, ap, sym, _∙_}
 use mathlib.Core.Logic.{_⊎_, _↔_}
 use mathlib.Core.List.{List}
 use lib.IntN.{subℕ}
+use contract.Lifetimes.{Lfts}
+use denote.Ref.{now}
+use denote.Triple.Clauses.{AtExit}
+use denote.Triple.Entry.{Args}
 use Rattle.rules.specs.Units.{interval}
 use Rattle.rules.specs.Past.{refreshStamps}
 use Rattle.rules.specs.Stretch.{countIn, Took}
 use Rattle.rules.specs.Form.{endOf}
-use Rattle.rules.specs.File.{FileVerdict, accepted, refused, judgeFile}
 use Rattle.rules.specs.FileReading.{Says, AcceptedFile}
 use Rattle.rules.proofs.FileExactly.{file-iff}
 use Rattle.rules.proofs.FileAccepted.{accepted-file-iff, cardIn, pastIn, refreshed-file, every-group-file, in-a-row-file}
-use Rattle.ledger.specs.Values.{stored}
-use Rattle.judge.specs.declared.Verdict.{Verdict}
-use Rattle.judge.specs.declared.Verdict.the-variants.{Accepted, Refused}
-use Rattle.judge.specs.Values.{verdictOf}
-use Rattle.rules.proofs.Determined.{tells}
-use Rattle.ledger.proofs.Promises.{stored-is}
+use Rattle.chunks.specs.declared.Verdict.{Verdict}
+use Rattle.chunks.specs.declared.Verdict.the-variants.{Accepted}
+use Rattle.chunks.specs.Values.{verdictOf}
+use Rattle.judge.proofs.judge as judge
+use Rattle.judge.proofs.Promises.{one-reading, judge-claims}
 
--- ---- no two verdicts read as one
-codeFor : FileVerdict → Verdict
-codeFor (accepted m n l) = Accepted m n (stored l)
-codeFor (refused k q at t) = Refused k q at t
+module _ (κs : Lfts (judge.signature .lifetimes)) (a : Args judge.signature κs) (r : Verdict) (x : AtExit judge.ended κs) (e : judge-claims κs a r x .claim) where
+  abbrev pub bytes : List ℕ
+  bytes = now (a .0)
 
-code-for : (r : Verdict) → codeFor (verdictOf r) ≡ r
-unfolding verdictOf codeFor
-code-for (Accepted m n o) = ap (Accepted m n) (stored-is o)
-code-for (Refused k q at t) = refl
-
-pub one-reading : (r s : Verdict) → verdictOf r ≡ verdictOf s → r ≡ s
-one-reading r s e = tells verdictOf codeFor code-for r s e refl
-
-module _ (bytes : List ℕ) (r : Verdict) (e : verdictOf r ≡ judgeFile bytes) where
   -- ---- demand 2: the verdict is this one exactly where the file says so
   pub verdict-exactly : (s : Verdict) → (r ≡ s) ↔ Says bytes (verdictOf s)
   verdict-exactly s =

@@ -1,15 +1,5 @@
--- Laws of the judge: of its functions; a state that stands for what was read, against the rules; the whole file and the demands; any way of cutting it; and that every promise
--- determines its answer.
-pub mod Turns
-pub mod Fronts
-pub mod Taking
-pub mod Advances
-pub mod Lining
+-- Laws of `chunks` against the rules: a state that stands for what was read; the whole file and the demands; any way of cutting it. The promise determines its answer.
 pub mod Prefix
-pub mod Walks
-pub mod Leads
-pub mod Hearing
-pub mod Arrays
 pub mod Overflow
 pub mod Stands
 pub mod StandsCard
@@ -18,12 +8,11 @@ pub mod StandsEnd
 pub mod Moves
 pub mod Agrees
 pub mod Room
-pub mod Ranging
 pub mod Whole
+pub mod Promises
 pub mod Demands
 pub mod Outcome
 pub mod Chunks
 pub mod Near
 pub mod Progress
 pub mod Streams
-pub mod Promises

@@ -7,6 +7,7 @@ use lib.ListN.{length, drop, length-append}
 use lib.Seq.{drop-at}
 use borrow.Author.Tests.{ne-eqb}
 use Rattle.rules.specs.Past.{Past}
+use Rattle.rules.specs.Checks.{refusal}
 use Rattle.rules.specs.Form.{Field, bytesOf, sizeOf, whole, cardOf, entryOf, endOf}
 use Rattle.rules.specs.File.{FileVerdict, refused, Step, goesOn, ends, closing, acceptedAt, stepOf}
 use Rattle.rules.specs.FileReading.{RightForm, one, two, three, four, entry, end, twelve, good}
@@ -14,15 +15,15 @@ use Rattle.rules.specs.Lines.{entryLines}
 use Rattle.rules.proofs.Exactly.{entry-decides, end-decides}
 use Rattle.rules.proofs.FileHeads.{HeadSays, is-whole, is-cut, is-bad-tag, is-bad-length}
 use Rattle.rules.proofs.FileSteps.{StepSays, card-on, entry-on, stops, step-says}
-use Rattle.judge.specs.declared.State.{State}
-use Rattle.judge.specs.declared.Verdict.{Verdict}
-use Rattle.judge.specs.declared.Verdict.the-variants.{Refused}
-use Rattle.judge.specs.declared.fields.Move.the-variants.{On, Wait, End}
-use Rattle.judge.specs.declared.fields.Took.{Took}
-use Rattle.judge.specs.Values.{verdictOf}
-use Rattle.judge.specs.Took.{tookAs, refusedHere, refusedBy, headTook, tookOf, fieldTook}
-use Rattle.judge.specs.Heard.{fieldLine, headLine, lineOf}
-use Rattle.judge.proofs.Overflow.{Bytes, bytes-part}
+use Rattle.chunks.specs.declared.State.{State}
+use Rattle.chunks.specs.declared.Verdict.{Verdict}
+use Rattle.chunks.specs.declared.Verdict.the-variants.{Refused}
+use Rattle.chunks.specs.declared.fields.Move.the-variants.{On, Wait, End}
+use Rattle.chunks.specs.declared.fields.Took.{Took}
+use Rattle.chunks.specs.Values.{verdictOf}
+use Rattle.chunks.specs.Took.{tookAs, refusedHere, refusedBy, headTook, tookOf, fieldTook}
+use Rattle.chunks.specs.Heard.{fieldLine, headLine, lineOf}
+use Rattle.chunks.proofs.Bytes.{Bytes, bytes-part}
 use Rattle.judge.proofs.Stands.{Stands, took-by, line-by}
 use Rattle.judge.proofs.StandsCard.{tag-small, card-refused, card-taken, card-stands}
 use Rattle.judge.proofs.StandsEntry.{entry-refused, entry-taken, entry-line, entry-stands}
@@ -94,7 +95,7 @@ module _ {st : State} {fs : List Field} {past : Past} {at : ℕ} (s : Stands st 
         (closes (sizeOf f) v at′ (some-bytes f rest .0) (some-bytes f rest .1) n (line ∙ no-line f (λ e. omega arith))))
 
   moves-so : {bs : List ℕ} {x : Step} → StepSays fs past at bs x → Bytes bs → Moves st past at bs (tookOf st bs) x
-  unfolding headTook refusedBy refusedHere closing
+  unfolding headTook refusedBy refusedHere refusal closing
   moves-so (card-on f rest form w g) b =
       goes-so f rest form (card-taken s f form w g) (card-stands s f form w g)
       (rw (no-line f (λ e. omega (arith, tag-small s f form w)), append-nil))

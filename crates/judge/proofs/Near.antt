@@ -1,26 +1,25 @@
 -- No run from a fresh state comes near the end of a count or of the offset: the state always stands for what was read, or for a file that is closed.
 use Prim.Native.Nat.{ℕ, _^_, _≤_, _<_}
-use mathlib.Core.Path.{_≡_, refl, sym, ap, _∙_}
+use mathlib.Core.Path.{_≡_, sym, ap, _∙_}
 use mathlib.Core.Bool.{Bool}
 use mathlib.Core.List.{List, [], _∷_, _++_}
 use native.Mathlib.Omega.{arith}
-use lib.ListN.{drop}
 use Rattle.rules.specs.Lists.{Every}
 use Rattle.rules.specs.Past.{Past}
 use Rattle.rules.specs.Form.{Field}
-use Rattle.rules.specs.File.{FileVerdict, Step, stepOf}
-use Rattle.judge.specs.declared.State.{State}
-use Rattle.judge.specs.declared.fields.Move.the-variants.{On}
-use Rattle.judge.specs.declared.fields.Took.{Took}
-use Rattle.judge.specs.Took.{refusedBy, behindTook, tookOf}
-use Rattle.judge.specs.Heard.{Heard, behind, heardOf}
-use Rattle.judge.proofs.Overflow.{Bytes, bytes-part, bytes-drop}
+use Rattle.rules.specs.File.{FileVerdict, Step}
+use Rattle.chunks.specs.declared.State.{State}
+use Rattle.chunks.specs.declared.fields.Move.the-variants.{On}
+use Rattle.chunks.specs.declared.fields.Took.{Took}
+use Rattle.chunks.specs.Took.{tookOf}
+use Rattle.chunks.specs.Heard.{Heard, behind, heardOf}
+use Rattle.chunks.proofs.Bytes.{Bytes, bytes-part, bytes-drop}
+use Rattle.chunks.proofs.Advances.{wait-on, end-on, behind-on}
+use Rattle.chunks.proofs.Walks.{Walk, stops-full, stops-more, stops-over, takes, walk}
 use Rattle.judge.proofs.Stands.{Stands, start-stands, far-below}
 use Rattle.judge.proofs.StandsEnd.{Ended}
 use Rattle.judge.proofs.Moves.{Moves, waits, stopped, goes, closes, moves}
 use Rattle.judge.proofs.Agrees.{behind-took}
-use Rattle.judge.proofs.Prefix.{on-wait, on-end, behind-on}
-use Rattle.judge.proofs.Walks.{Walk, stops-full, stops-more, stops-over, takes, walk}
 use Rattle.judge.proofs.Chunks.{Run, begin, bytes, call}
 
 data Standing (st : State) : Type 0 where
@@ -29,14 +28,14 @@ data Standing (st : State) : Type 0 where
 
 -- ---- one field
 on-stands : {st : State} {past : Past} {at n : ℕ} {bs : List ℕ} {t : Took} {x : Step} → Moves st past at bs t x → t .how ≡ On n → Standing (t .state)
-on-stands waits e = absurd (on-wait (sym e))
-on-stands (stopped v) e = absurd (on-end (sym e))
+on-stands waits e = wait-on e
+on-stands (stopped v) e = end-on e
 on-stands (goes n l m s w) e = reading s
 on-stands (closes n v at l m s w) e = closed s
 
 took-stands : {st : State} → Standing st → (bs : List ℕ) (n : ℕ) → Bytes bs → tookOf st bs .how ≡ On n → Standing (tookOf st bs .state)
 took-stands (reading s) bs n b e = on-stands (moves s bs b) e
-took-stands {st} (closed x) bs n b e = absurd (behind-on st bs bs n (sym (ap (λ (t : Took). t .how) (behind-took x bs)) ∙ e))
+took-stands {st} (closed x) bs n b e = behind-on st bs n (sym (ap (λ (t : Took). t .how) (behind-took x bs)) ∙ e)
 
 -- ---- one call
 call-stands : {q : Bool} {room : ℕ} {st : State} {bs : List ℕ} {h : Heard} → Walk q room st bs h → Standing st → Bytes bs → Standing (h .state)

@@ -6,13 +6,13 @@ use mathlib.Core.List.{List, [], _++_}
 use native.Mathlib.Nat.{le-refl}
 use native.Mathlib.Omega.{arith}
 use lib.ListN.{length, drop}
-use Rattle.judge.specs.declared.State.{State}
-use Rattle.judge.specs.declared.Verdict.{Verdict}
-use Rattle.judge.specs.declared.fields.Move.{Move}
-use Rattle.judge.specs.declared.fields.Move.the-variants.{On, Wait, End}
-use Rattle.judge.specs.Took.{tookOf}
-use Rattle.judge.specs.Heard.{lineOf, Heard, behind, endedAt, overAt, finishedOf}
-use Rattle.judge.proofs.Walks.{shorter, stops-more, stops-over, takes, walk, only}
+use Rattle.chunks.specs.declared.State.{State}
+use Rattle.chunks.specs.declared.Verdict.{Verdict}
+use Rattle.chunks.specs.declared.fields.Move.{Move}
+use Rattle.chunks.specs.declared.fields.Move.the-variants.{On, Wait, End}
+use Rattle.chunks.specs.Took.{tookOf}
+use Rattle.chunks.specs.Heard.{lineOf, Heard, behind, endedAt, overAt, finishedOf}
+use Rattle.chunks.proofs.Walks.{shorter, stops-more, stops-over, takes, walk, only}
 
 -- the lines of the entries that are taken
 unfoldable pub lineThen : (line : List ℕ) → (ℕ → List ℕ) → Move → List ℕ

@@ -1,27 +1,26 @@
 -- A call comes to something: with room for a line it takes a field or says why not, and what it leaves waiting is less than one field.
 use Prim.Native.Nat.{ℕ, _+_, _*_, _≤_, _<_}
-use mathlib.Core.Path.{_≡_, refl, sym, _∙_}
+use mathlib.Core.Path.{_≡_, refl, sym}
 use mathlib.Core.Bool.{Bool, true, false, cond}
-use mathlib.Core.Logic.{⊎-elim}
 use mathlib.Core.List.{List, [], _∷_}
 use native.Mathlib.Omega.{arith}
 use lib.Dec.{leb}
 use lib.ListN.{length, drop, length-drop}
 use borrow.Author.Tests.{leb-true, leb-false}
 use Rattle.rules.specs.Lists.{all}
-use Rattle.rules.specs.Form.{Field, sizeOf, Head, _of_, lengths, lengthGood, headOf}
+use Rattle.rules.specs.Form.{Field, Head, _of_, lengths, lengthGood, headOf}
 use Rattle.rules.specs.FileReading.{Cut, noTag, noLength, halfLength, shortValue}
 use Rattle.rules.proofs.FileHeads.{HeadSays, is-whole, is-cut, is-bad-tag, is-bad-length, head-says}
 use Rattle.card.proofs.Lengths.{listed-has}
-use Rattle.judge.specs.declared.State.{State}
-use Rattle.judge.specs.declared.Verdict.{Verdict}
-use Rattle.judge.specs.declared.What.the-variants.{More, Full}
-use Rattle.judge.specs.declared.fields.Move.the-variants.{On, Wait, End}
-use Rattle.judge.specs.Took.{refusedBy, fieldTook, headTook, behindTook, asRead, tookOf}
-use Rattle.judge.specs.Heard.{Heard, behind, heardOf}
-use Rattle.judge.proofs.Prefix.{on-wait, end-wait, field-moves, taken-size}
-use Rattle.judge.proofs.Turns.{hasRoom}
-use Rattle.judge.proofs.Walks.{Walk, stops-full, stops-more, stops-over, takes, walk}
+use Rattle.chunks.specs.declared.State.{State}
+use Rattle.chunks.specs.declared.What.the-variants.{More, Full}
+use Rattle.chunks.specs.declared.fields.Move.the-variants.{Wait}
+use Rattle.chunks.specs.Took.{refusedBy, headTook, behindTook, asRead, tookOf}
+use Rattle.chunks.specs.Heard.{Heard, behind, heardOf}
+use Rattle.chunks.proofs.Turns.{hasRoom}
+use Rattle.chunks.proofs.Advances.{wait-on, field-how, taken-size}
+use Rattle.chunks.proofs.Walks.{Walk, stops-full, stops-more, stops-over, takes, walk}
+use Rattle.judge.proofs.Prefix.{end-wait}
 use Rattle.judge.proofs.Chunks.{left-over}
 
 -- ---- a field has at most 10 bytes
@@ -37,10 +36,7 @@ cut-short fs (shortValue {t} {h} {l} m g s) = omega (arith, short-value t (256 *
 
 head-short : (st : State) (fs : List Field) {bs : List ℕ} {h : Head} → HeadSays fs bs h → headTook st h .how ≡ Wait → length bs < 10
 unfolding headTook refusedBy
-head-short st fs (is-whole f rest r) e =
-    ⊎-elim (λ (q : fieldTook st f .how ≡ On (sizeOf f)). absurd (on-wait (sym q ∙ e)))
-    (λ (q : (v : Verdict) × (fieldTook st f .how ≡ End v)). absurd (end-wait (sym (q .1) ∙ e)))
-    (field-moves st f)
+head-short st fs (is-whole f rest r) e = field-how st f Wait (λ q. wait-on (sym q)) (λ v q. absurd (end-wait q)) e
 head-short st fs (is-cut c) e = cut-short fs c
 head-short st fs (is-bad-tag m) e = absurd (end-wait e)
 head-short st fs (is-bad-length m g) e = absurd (end-wait e)

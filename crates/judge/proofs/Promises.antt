@@ -1,61 +1,33 @@
--- The promise of each public function determines its answer and what it leaves in the slice.
-use mathlib.Core.Path.{_≡_, refl, sym, _∙_}
-use mathlib.Core.List.{List}
-use Prim.Native.Nat.{ℕ}
-use Rattle.rules.proofs.Determined.{Promise, Determined, determined, fact-of}
-use Rattle.lines.proofs.Puts.{one-written}
-use Rattle.judge.specs.declared.Fed.{Fed}
-use Rattle.judge.specs.Heard.{Heard, FedAs}
-use Rattle.judge.proofs.Demands.{one-reading}
-use Rattle.judge.proofs.feeding.start as start
-use Rattle.judge.proofs.feeding.feed as feed
-use Rattle.judge.proofs.feeding.finish as finish
-use Rattle.judge.proofs.feeding.judge as judge
-use Rattle.judge.proofs.verdicts.verdict_line as verdict-line
+-- The promise of the judge determines its verdict; and what it claims of one.
+use mathlib.Core.Path.{_≡_, refl, ap, sym, _∙_}
+use Rattle.rules.specs.File.{FileVerdict, accepted, refused}
+use Rattle.rules.proofs.Determined.{tells, Promise, Plainly, Determined, determined, fact-of}
+use Rattle.ledger.specs.Values.{stored}
+use Rattle.ledger.proofs.Promises.{stored-is}
+use Rattle.chunks.specs.declared.Verdict.{Verdict}
+use Rattle.chunks.specs.declared.Verdict.the-variants.{Accepted, Refused}
+use Rattle.chunks.specs.Values.{verdictOf}
+use Rattle.judge.proofs.judge as judge
 
-abbrev start-says : Promise start.ended
-start-says w = start.clauses (w .𝓤) (w .H) (w .𝓖 .A) (w .𝓜 .mem) (w .𝓡 .run)
+-- ---- no two verdicts read as one
+codeFor : FileVerdict → Verdict
+codeFor (accepted m n l) = Accepted m n (stored l)
+codeFor (refused k q at t) = Refused k q at t
 
-pub start-determined : Determined start.ended start-says
-start-determined = determined start.ended start-says (λ κs a r e. fact-of _) (λ κs a r r′ ws ws′ p p′. (p ∙ sym p′, refl))
+code-for : (r : Verdict) → codeFor (verdictOf r) ≡ r
+unfolding verdictOf codeFor
+code-for (Accepted m n o) = ap (Accepted m n) (stored-is o)
+code-for (Refused k q at t) = refl
 
--- two answers to what was heard are one
-one-fed : {h : Heard} {old new new′ : List ℕ} {r r′ : Fed} → FedAs h old new r → FedAs h old new′ r′ → (r ≡ r′) × (new ≡ new′)
-one-fed p p′ = (
-  λ i. record {
-    what = (p .what ∙ sym (p′ .what)) i;
-    used = (p .used ∙ sym (p′ .used)) i;
-    wrote = (p .wrote ∙ sym (p′ .wrote)) i;
-    state = (p .state ∙ sym (p′ .state)) i;
-  },
-  p .memory ∙ sym (p′ .memory),
-)
+pub one-reading : (r s : Verdict) → verdictOf r ≡ verdictOf s → r ≡ s
+one-reading r s e = tells verdictOf codeFor code-for r s e refl
 
-abbrev feed-says : Promise feed.ended
-feed-says w = feed.clauses (w .𝓤) (w .H) (w .𝓖 .A) (w .𝓜 .mem) (w .𝓡 .run)
-
-pub feed-determined : Determined feed.ended feed-says
-feed-determined =
-    determined feed.ended feed-says (λ κs a r e. fact-of _)
-    (λ κs a r r′ ws ws′ p p′. let one = one-fed p p′ in (one .0, λ i. (tt, (tt, (one .1 i, (tt, tt))))))
-
-abbrev finish-says : Promise finish.ended
-finish-says w = finish.clauses (w .𝓤) (w .H) (w .𝓖 .A) (w .𝓜 .mem) (w .𝓡 .run)
-
-pub finish-determined : Determined finish.ended finish-says
-finish-determined = determined finish.ended finish-says (λ κs a r e. fact-of _) (λ κs a r r′ ws ws′ p p′. (p ∙ sym p′, refl))
-
-abbrev judge-says : Promise judge.ended
+-- ---- the promise
+abbrev pub judge-says : Promise judge.ended
 judge-says w = judge.clauses (w .𝓤) (w .H) (w .𝓖 .A) (w .𝓜 .mem) (w .𝓡 .run)
 
+abbrev pub judge-claims : Plainly judge.ended judge-says
+judge-claims κs a r e = fact-of _
+
 pub judge-determined : Determined judge.ended judge-says
-judge-determined =
-    determined judge.ended judge-says (λ κs a r e. fact-of _) (λ κs a r r′ ws ws′ p p′. (one-reading r r′ (p ∙ sym p′), refl))
-
-abbrev verdict-line-says : Promise verdict-line.ended
-verdict-line-says w = verdict-line.clauses (w .𝓤) (w .H) (w .𝓖 .A) (w .𝓜 .mem) (w .𝓡 .run)
-
-pub verdict-line-determined : Determined verdict-line.ended verdict-line-says
-verdict-line-determined =
-    determined verdict-line.ended verdict-line-says (λ κs a r e. fact-of _)
-    (λ κs a r r′ ws ws′ p p′. let one = one-written p p′ in (one .0, λ i. (one .1 i, (tt, tt))))
+judge-determined = determined judge.ended judge-says judge-claims (λ κs a r r′ ws ws′ p p′. (one-reading r r′ (p ∙ sym p′), refl))

@@ -1,74 +1,43 @@
 -- No run without lines lacks room; nor does one with lines that has 64 bytes of room, and 64 more for each of its bytes.
-use Prim.Native.Nat.{ℕ, zero, suc, _+_, _*_, _^_, _≤_, _<_}
+use Prim.Native.Nat.{ℕ, zero, suc, _+_, _*_, _≤_}
 use mathlib.Core.Path.{_≡_, refl, ap, sym, _∙_}
 use mathlib.Core.Bool.{Bool, true, false, cond, _||_, or-true}
 use mathlib.Core.List.{List, [], _∷_}
 use native.Mathlib.Omega.{arith}
 use lib.Dec.{leb, eqb}
-use lib.ListN.{length, drop, length-append, length-drop}
+use lib.ListN.{length, drop, length-drop}
 use borrow.Author.Tests.{le-leb}
-use Rattle.rules.specs.Commands.{Kind, NOP, MRW, MRR, REFPB, REFAB, ACT, RD, WR, PRE, PREA, RESERVED, kindOf, apOf}
-use Rattle.rules.specs.Past.{Taken, Past, bankAt}
+use Rattle.rules.specs.Past.{Taken, Past}
 use Rattle.rules.specs.Entries.{read}
 use Rattle.rules.specs.Form.{Field, bytesOf, Head, entryOf}
 use Rattle.rules.specs.File.{FileVerdict, Step}
 use Rattle.rules.specs.Lent.{commandIn}
-use Rattle.rules.specs.Lines.{decimal, nameOf, showsBank, entryLine}
+use Rattle.rules.specs.Lines.{entryLine}
 use Rattle.rules.proofs.Taken.{counter-good}
 use Rattle.rules.proofs.FileHeads.{HeadSays, is-whole, is-cut, is-bad-tag, is-bad-length, head-says}
-use Rattle.lines.proofs.Decimals.{short}
 use Rattle.bank.specs.Values.{lentOf}
 use Rattle.bank.proofs.Remembered.{bank-low}
 use Rattle.step.proofs.Leaves.{bank-by}
-use Rattle.judge.specs.declared.State.{State}
-use Rattle.judge.specs.declared.Verdict.{Verdict}
-use Rattle.judge.specs.declared.What.{What}
-use Rattle.judge.specs.declared.What.the-variants.{More, Full, Over}
-use Rattle.judge.specs.declared.fields.Move.{Move}
-use Rattle.judge.specs.declared.fields.Move.the-variants.{On, Wait, End}
-use Rattle.judge.specs.declared.fields.Took.{Took}
-use Rattle.judge.specs.Took.{tookAs, refusedBy, behindTook, tookOf}
-use Rattle.judge.specs.Heard.{fieldLine, headLine, lineOf, Heard, heardFrom}
-use Rattle.judge.proofs.Overflow.{Bytes, bytes-part, bytes-drop, stamp-small}
+use Rattle.chunks.specs.declared.State.{State}
+use Rattle.chunks.specs.declared.Verdict.{Verdict}
+use Rattle.chunks.specs.declared.What.{What}
+use Rattle.chunks.specs.declared.What.the-variants.{More, Full, Over}
+use Rattle.chunks.specs.declared.fields.Move.{Move}
+use Rattle.chunks.specs.declared.fields.Move.the-variants.{On, Wait, End}
+use Rattle.chunks.specs.declared.fields.Took.{Took}
+use Rattle.chunks.specs.Took.{tookAs, refusedBy, behindTook, tookOf}
+use Rattle.chunks.specs.Heard.{fieldLine, headLine, lineOf, Heard, heardFrom}
+use Rattle.chunks.proofs.Bytes.{Bytes, bytes-part, bytes-drop}
+use Rattle.chunks.proofs.Short.{entry-short}
+use Rattle.chunks.proofs.Turns.{lineIf, heard-on, heard-waits, heard-ends, what-behind}
+use Rattle.judge.proofs.Overflow.{stamp-small}
 use Rattle.judge.proofs.Stands.{Stands, line-by}
 use Rattle.judge.proofs.StandsEntry.{counter-is}
 use Rattle.judge.proofs.StandsEnd.{Ended}
 use Rattle.judge.proofs.Moves.{Moves, waits, stopped, goes, closes, moves}
-use Rattle.judge.proofs.Turns.{lineIf, heard-on, heard-waits, heard-ends, what-behind}
 use Rattle.judge.proofs.Agrees.{behind-took}
 
 -- ---- a line is short
-name-short : (k : Kind) (ap : Bool) → length (nameOf k ap) ≤ 5
-unfolding nameOf
-name-short NOP ap = omega arith
-name-short MRW ap = omega arith
-name-short MRR ap = omega arith
-name-short REFPB ap = omega arith
-name-short REFAB ap = omega arith
-name-short ACT ap = omega arith
-name-short RD true = omega arith
-name-short RD false = omega arith
-name-short WR true = omega arith
-name-short WR false = omega arith
-name-short PRE ap = omega arith
-name-short PREA ap = omega arith
-name-short RESERVED ap = omega arith
-
-bank-short : (b : Bool) (x : ℕ) → x ≤ 7 → length (cond b (decimal x) (45 ∷ [])) ≤ 1
-bank-short true x h = short 0 x (omega arith)
-bank-short false x h = omega arith
-
-pub entry-short : (e : Taken) (n : ℕ) → e .stamp < 2 ^ 32 → bankAt (e .cmd) n ≤ 7 → length (entryLine e n) ≤ 24
-unfolding entryLine
-entry-short e n h b =
-    simp length-append
-    (omega (
-      arith,
-      short 9 (e .stamp) (omega arith),
-      name-short (kindOf (e .cmd)) (apOf (e .cmd)),
-      bank-short (showsBank (kindOf (e .cmd))) (bankAt (e .cmd) n) b,
-    ))
-
 module _ {st : State} {fs : List Field} {past : Past} {at : ℕ} (s : Stands st fs past at) where
   field-short : (f : Field) → Bytes (bytesOf f) → length (fieldLine st f) ≤ 64
   unfolding fieldLine commandIn read

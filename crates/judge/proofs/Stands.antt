@@ -21,11 +21,12 @@ use Rattle.card.proofs.Fields.{Holds, holds-blank}
 use Rattle.bank.specs.Values.{lentOf, freshOf}
 use Rattle.bank.proofs.Sizes.{Whole}
 use Rattle.bank.proofs.Beginning.{fresh-lent}
-use Rattle.judge.specs.declared.State.{State}
-use Rattle.judge.specs.Took.{wrapped, asRead, headTook, tookOf}
-use Rattle.judge.specs.Heard.{startOf, headLine, lineOf}
-use Rattle.judge.proofs.Arrays.{fresh-whole}
-use Rattle.judge.proofs.Overflow.{wrapped-is, few, commands-few, counted-few}
+use Rattle.step.proofs.Arrays.{fresh-whole}
+use Rattle.chunks.specs.declared.State.{State}
+use Rattle.chunks.specs.Took.{wrapped, asRead, headTook, tookOf}
+use Rattle.chunks.specs.Heard.{startOf, headLine, lineOf}
+use Rattle.chunks.proofs.Wraps.{wrapped-is}
+use Rattle.judge.proofs.Overflow.{few, commands-few, counted-few}
 
 pub record Stands (st : State) (fs : List Field) (past : Past) (at : ℕ) : Type 0 where
   pub card : CardRight fs

@@ -1,5 +1,5 @@
 -- The end field: refused as the list refuses it, or taken, and then the state remembers the verdict, which stands unless a byte more comes.
-use Prim.Native.Nat.{ℕ, _+_, _^_, _≤_, _<_}
+use Prim.Native.Nat.{ℕ, suc, _+_, _^_, _≤_, _<_}
 use mathlib.Core.Path.{_≡_, refl, ap, sym, _∙_}
 use mathlib.Core.Bool.{true, false}
 use mathlib.Core.Logic.{⊎-elim}
@@ -20,18 +20,25 @@ use Rattle.rules.specs.File.{FileVerdict, acceptedAt}
 use Rattle.rules.specs.FileReading.{RightForm}
 use Rattle.rules.specs.Lent.{Lent, closeRefusal, moved, lastCycle, standingLedger, standing}
 use Rattle.rules.proofs.Tests.{le-cases, some-none}
+use Rattle.rules.proofs.Biased.{owed, ledger-biased}
 use Rattle.rules.proofs.StepByList.{standsAt, close-by-list, close-below, owing-by-list}
 use Rattle.card.specs.Values as code
 use Rattle.ledger.specs.Values.{ledgerOf, stored, codeOf}
+use Rattle.ledger.proofs.Promises.{stored-is}
 use Rattle.bank.specs.Values.{lentOf}
-use Rattle.judge.specs.declared.State.{State}
-use Rattle.judge.specs.declared.fields.Move.the-variants.{On}
-use Rattle.judge.specs.Values.{verdictOf}
-use Rattle.judge.specs.Took.{tookAs, wrapped, refusedHere, recordClosed, endAfter, endTook, fieldTook}
-use Rattle.judge.specs.Heard.{endedAt}
+use Rattle.chunks.specs.declared.State.{State}
+use Rattle.chunks.specs.declared.fields.Move.the-variants.{On}
+use Rattle.chunks.specs.Values.{verdictOf}
+use Rattle.chunks.specs.Took.{tookAs, wrapped, refusedHere, recordClosed, endAfter, endTook, fieldTook}
+use Rattle.chunks.specs.Heard.{endedAt}
 use Rattle.judge.proofs.Overflow.{size-small}
 use Rattle.judge.proofs.Stands.{Stands, far-below, offset-behind}
-use Rattle.judge.proofs.StandsEntry.{stored-back, in-range, paid}
+use Rattle.judge.proofs.StandsEntry.{in-range, paid}
+
+-- a ledger over the list is stored as it is
+stored-back : (I : ℕ) (cs : List ℕ) (t : ℕ) → subℕ (stored (ledgerAfter 8 I cs t)) 8 ≡ ledgerAfter 8 I cs t
+unfolding ledgerAfter
+stored-back I cs t = rw (ledger-biased 8 I cs (suc t), stored-is (owed 8 I cs (suc t)))
 
 -- behind a good end field
 pub record Ended (st : State) (v : FileVerdict) (at : ℕ) : Type 0 where

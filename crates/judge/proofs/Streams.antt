@@ -7,20 +7,20 @@ use native.Mathlib.Omega.{arith}
 use lib.ListN.{length, drop}
 use Rattle.rules.specs.File.{judged, judgeFile}
 use Rattle.rules.specs.Lines.{entryLines, verdictLine, linesOf}
-use Rattle.judge.specs.declared.State.{State}
-use Rattle.judge.specs.declared.Verdict.{Verdict}
-use Rattle.judge.specs.declared.What.{What}
-use Rattle.judge.specs.declared.What.the-variants.{More, Full, Over}
-use Rattle.judge.specs.declared.fields.Move.the-variants.{Wait}
-use Rattle.judge.specs.Values.{verdictOf}
-use Rattle.judge.specs.Took.{tookOf}
-use Rattle.judge.specs.Heard.{startOf, heardOf, finishedOf}
-use Rattle.judge.proofs.Overflow.{Bytes}
+use Rattle.chunks.specs.declared.State.{State}
+use Rattle.chunks.specs.declared.Verdict.{Verdict}
+use Rattle.chunks.specs.declared.What.{What}
+use Rattle.chunks.specs.declared.What.the-variants.{More, Full, Over}
+use Rattle.chunks.specs.declared.fields.Move.the-variants.{Wait}
+use Rattle.chunks.specs.Values.{verdictOf}
+use Rattle.chunks.specs.Took.{tookOf}
+use Rattle.chunks.specs.Heard.{startOf, heardOf, finishedOf}
+use Rattle.chunks.proofs.Bytes.{Bytes}
+use Rattle.chunks.proofs.Walks.{walk}
 use Rattle.judge.proofs.Whole.{judged-is, lines-from}
 use Rattle.judge.proofs.Room.{roomy-goes}
 use Rattle.judge.proofs.Stands.{start-stands}
 use Rattle.judge.proofs.Outcome.{textOf, text-wait}
-use Rattle.judge.proofs.Walks.{walk}
 use Rattle.judge.proofs.Chunks.{left-over, Run, call-text-over, call-text-more, finished, over, text-goes-on, text-over}
 
 -- ---- the text of a run that never lacks room, then the verdict, are the lines of the file

@@ -9,11 +9,11 @@ use Rattle.rules.specs.Past.{Past}
 use Rattle.rules.specs.Form.{Field}
 use Rattle.rules.specs.File.{fileFrom, judged, judgeFile}
 use Rattle.rules.specs.Lines.{entryLines, verdictLine, linesOf}
-use Rattle.judge.specs.declared.State.{State}
-use Rattle.judge.specs.declared.What.the-variants.{Full}
-use Rattle.judge.specs.Values.{verdictOf}
-use Rattle.judge.specs.Heard.{startOf, heardFrom, heardOf, overAt, finishedOf}
-use Rattle.judge.proofs.Overflow.{Bytes}
+use Rattle.chunks.specs.declared.State.{State}
+use Rattle.chunks.specs.declared.What.the-variants.{Full}
+use Rattle.chunks.specs.Values.{verdictOf}
+use Rattle.chunks.specs.Heard.{startOf, heardFrom, heardOf, overAt, finishedOf}
+use Rattle.chunks.proofs.Bytes.{Bytes}
 use Rattle.judge.proofs.Stands.{Stands, start-stands}
 use Rattle.judge.proofs.Agrees.{Agree, agree}
 use Rattle.judge.proofs.Room.{quiet-goes, roomy-goes}

@@ -1,56 +1,11 @@
-// The judge of a file, whole or in chunks.
-mod counts;
-mod feeding;
-mod fields;
-mod heads;
-mod leaps;
-mod numbers;
-mod told;
-mod verdicts;
-mod writing;
+// The judge of a whole file. The laws here hold `chunks`, which judges a file in parts, against the rules.
+ghost use mathlib.Core.Path.{_≡_};
+ghost use Rattle.rules.specs.File.{judgeFile};
+ghost use Rattle.chunks.specs.Values.{verdictOf};
+use chunks::Verdict;
 
-use bank::Record;
-pub use feeding::feed;
-pub use feeding::finish;
-pub use feeding::judge;
-pub use feeding::start;
-pub use verdicts::verdict_line;
-
-// What comes back at the end: entries other than NOP, counted refreshes and the ledger at E with 8 added; or the four numbers of a refusal.
-pub enum Verdict {
-    Accepted {
-        commands: u64,
-        refreshes: u64,
-        owed: u8,
-    },
-    Refused {
-        number: u8,
-        rule: u8,
-        offset: u64,
-        cycle: u64,
-    },
-}
-
-// What was read of a file. `read` is how many fields of the card, 19 behind the end field; the record's card is the card so far.
-pub struct State {
-    read: u8,
-    rec: Record,
-    commands: u64,
-    refreshes: u64,
-    offset: u64,
-}
-
-// Why a call came back: it needs more bytes, or more room for lines, or the file is judged.
-pub enum What {
-    More,
-    Full,
-    Over(Verdict),
-}
-
-// How many bytes went in whole fields, how many bytes of lines were written, and the state then.
-pub struct Fed {
-    pub what: What,
-    pub used: usize,
-    pub wrote: usize,
-    pub state: State,
+pub fn judge(file: &[u8]) -> Verdict
+    ensures { λ r. ⌜ verdictOf r ≡ judgeFile (now (file .entry)) ⌝ }
+{
+    chunks::finish(chunks::start(), file)
 }

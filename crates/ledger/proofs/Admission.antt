@@ -2,17 +2,17 @@
 use Prim.Native.Nat.{ℕ, _≤_, _<_}
 use mathlib.Core.Path.{_≡_, refl, sym, _∙_}
 use mathlib.Core.Logic.{_⊎_, inl, inr}
-use mathlib.Core.Bool.{Bool, true, false, _&&_}
+use mathlib.Core.Bool.{Bool, true, false}
 use mathlib.Core.List.{List, _∷_}
 use mathlib.Core.Option.{Option, some}
 use native.Mathlib.Omega.{arith}
 use lib.Dec.{leb}
 use borrow.Author.Tests.{le-leb, lt-leb, leb-true}
 use Rattle.rules.specs.Card.{Card}
-use Rattle.rules.specs.Ranges.{cardGood}
 use Rattle.rules.specs.Folds.{orElse, firstOf}
 use Rattle.rules.specs.Checks.{Refusal, refusal, unless}
-use Rattle.rules.specs.Lent.{Ledger, owingGood, refreshedGood, ledgerGood}
+use Rattle.rules.specs.Ranges.{cardGood}
+use Rattle.rules.specs.Lent.{Ledger, refreshedGood, ledgerGood}
 use Rattle.rules.specs.Units.{interval}
 use Rattle.rules.proofs.Tests.{le-cases, both-true}
 use Rattle.rules.proofs.Rounding.{interval-positive}
@@ -23,21 +23,17 @@ use Rattle.ledger.specs.declared.Ledger as code
 
 module _ (card : Card) (g : Ledger) (t : ℕ) where
   -- as the code finds the number
-  pub not-in-range : cardGood card ≡ false → 13 ≡ admitted card g t
-  unfolding admitted ledgerGood
-  not-in-range e = rw e
+  pub not-sound : ledgerGood card g ≡ false → 13 ≡ admitted card g t
+  unfolding admitted
+  not-sound e = rw e
 
-  pub not-sound : cardGood card ≡ true → (owingGood (g .owing) && refreshedGood g) ≡ false → 13 ≡ admitted card g t
-  unfolding admitted ledgerGood
-  not-sound e n = rw (e, n)
+  pub too-early : ledgerGood card g ≡ true → t < g .at → 5 ≡ admitted card g t
+  unfolding admitted
+  too-early e h = rw (e, lt-leb (g .at) t h)
 
-  pub too-early : cardGood card ≡ true → (owingGood (g .owing) && refreshedGood g) ≡ true → t < g .at → 5 ≡ admitted card g t
-  unfolding admitted ledgerGood
-  too-early e n h = rw (e, n, lt-leb (g .at) t h)
-
-  pub in-order : cardGood card ≡ true → (owingGood (g .owing) && refreshedGood g) ≡ true → g .at ≤ t → 0 ≡ admitted card g t
-  unfolding admitted ledgerGood
-  in-order e n h = rw (e, n, le-leb (g .at) t h)
+  pub in-order : ledgerGood card g ≡ true → g .at ≤ t → 0 ≡ admitted card g t
+  unfolding admitted
+  in-order e h = rw (e, le-leb (g .at) t h)
 
   -- what the number says of a list of checks that begins with 13 and 5
   abbrev pub checked : List (Option Refusal) → Option Refusal
@@ -85,10 +81,24 @@ module _ (card : Card) (g : Ledger) (t : ℕ) where
       go (five n c) = absurd (b n)
       go (neither n s c) = (s, c)
 
--- what the account asks of a ledger that is not refused
-pub stood-args : (card : Card) (g : code.Ledger) (t : ℕ) → Stood card (ledgerOf g) t → (0 < interval card) × (g .owed ≤ 16) × (g .at ≤ t)
-unfolding ledgerGood ledgerOf
-stood-args card g t s =
-    let a = both-true _ _ (s .good) in
-    let b = both-true _ _ (a .0) in
-    (interval-positive card (b .0), leb-true (g .owed) 16 (sym (owing-biased (g .owed)) ∙ b .1), s .later)
+-- what is known of a ledger that 13 lets pass
+module _ (card : Card) (g : code.Ledger) where
+  pub record Sound : Type 0 where
+    pub good : ledgerGood card (ledgerOf g) ≡ true
+    pub range : cardGood card ≡ true
+    pub positive : 0 < interval card
+    pub low : g .owed ≤ 16
+    pub since : g .refreshed ≤ g .at
+
+  pub sound-when : ledgerGood card (ledgerOf g) ≡ true → Sound
+  unfolding ledgerGood refreshedGood ledgerOf
+  sound-when e =
+      let a = both-true _ _ e in
+      let b = both-true _ _ (a .0) in
+      record {
+        good = e;
+        range = b .0;
+        positive = interval-positive card (b .0);
+        low = leb-true (g .owed) 16 (sym (owing-biased (g .owed)) ∙ b .1);
+        since = leb-true _ _ (a .1);
+      }

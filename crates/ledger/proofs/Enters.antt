@@ -72,38 +72,32 @@ one-more I g t s e le =
     rw (a, b, d)
 
 -- ---- moved on to the stamp: it stands there; it is refused on the way; it comes there from the cycle before
-module _ (g : Ledger) (I t : ℕ) where
-  abbrev AtStamp : After → Type 0
-  AtStamp = Left (named 11 (failingTo I (ledgerOf g) t)) (ledgerOf g) (ledgerTo I (ledgerOf g) t)
+abbrev AtStamp : Ledger → (I t : ℕ) → After → Type 0
+AtStamp g I t = Left (named 11 (failingTo I (ledgerOf g) t)) (ledgerOf g) (ledgerTo I (ledgerOf g) t)
 
-  abbrev Before : After → Type 0
-  Before = Left (named 11 (failingTo I (ledgerOf g) (suc (t - 1)))) (ledgerOf g) (ledgerTo I (ledgerOf g) (t - 1))
+pub stands-there : (g : Ledger) (I t : ℕ) → g .at ≡ t → AtStamp g I t (record { ledger = g; answer = Done })
+unfolding named refusalOf unlessRefused ledgerOf
+stands-there g I t e =
+    let n : failingTo I (ledgerOf g) t ≡ none = subst (λ u. failingTo I (ledgerOf g) u ≡ none) e (none-failing-below I (ledgerOf g)) in
+    let s : ledgerTo I (ledgerOf g) t ≡ ledgerOf g = subst (λ u. ledgerTo I (ledgerOf g) u ≡ ledgerOf g) e (as-it-was I (ledgerOf g)) in
+    record { told = rw n; ledger = rw (n, s) }
 
-  pub stands-there : g .at ≡ t → AtStamp (record { ledger = g; answer = Done })
-  unfolding named refusalOf unlessRefused ledgerOf
-  stands-there e =
-      let n : failingTo I (ledgerOf g) t ≡ none = subst (λ u. failingTo I (ledgerOf g) u ≡ none) e (none-failing-below I (ledgerOf g)) in
-      let s : ledgerTo I (ledgerOf g) t ≡ ledgerOf g = subst (λ u. ledgerTo I (ledgerOf g) u ≡ ledgerOf g) e (as-it-was I (ledgerOf g)) in
-      record { told = rw n; ledger = rw (n, s) }
+module _ (g : Ledger) (I s : ℕ) (r : After) (b : Left (named 11 (failingTo I (ledgerOf g) (suc s))) (ledgerOf g) (ledgerTo I (ledgerOf g) s) r) (t : ℕ) (next : suc s ≡ t) where
+  pub refused-before : isNone (refusalOf (r .answer)) ≡ false → AtStamp g I t r
+  refused-before n = refused-left _ _ _ r b n _ (λ x e. rw next at e) _
 
-  module _ (r : After) (b : Before r) (later : g .at < t) where
-    upTo : suc (t - 1) ≡ t
-    upTo = omega arith
-
-    pub refused-before : isNone (refusalOf (r .answer)) ≡ false → AtStamp r
-    refused-before n = refused-left _ _ _ r b n _ (λ x e. rw upTo at e) _
-
-    pub cycle-before : isNone (refusalOf (r .answer)) ≡ true → suc (r .ledger .at) ≡ t
+  module _ (n : isNone (refusalOf (r .answer)) ≡ true) where
+    pub cycle-before : suc (r .ledger .at) ≡ t
     unfolding ledgerOf ledgerTo
-    cycle-before n = let e : r .ledger .at ≡ t - 1 = ap (λ (x : lent.Ledger). x .at) (stood-left _ _ _ r b n .1) in omega arith
+    cycle-before = let e : r .ledger .at ≡ s = ap (λ (x : lent.Ledger). x .at) (stood-left _ _ _ r b n .1) in omega arith
 
-    pub comes-there : isNone (refusalOf (r .answer)) ≡ true → (h : Ledger) → ledgerOf h ≡ ledgerTo I (ledgerOf (r .ledger)) t → AtStamp (record { ledger = h; answer = Done })
+    pub comes-there : g .at ≤ s → (h : Ledger) → ledgerOf h ≡ ledgerTo I (ledgerOf (r .ledger)) t → AtStamp g I t (record { ledger = h; answer = Done })
     unfolding named refusalOf unlessRefused ledgerOf
-    comes-there n h e =
+    comes-there later h e =
         let p = stood-left _ _ _ r b n in
-        let z : named 11 (failingTo I (ledgerOf g) t) ≡ none = rw upTo at (p .0) in
+        let z : named 11 (failingTo I (ledgerOf g) t) ≡ none = rw next at (p .0) in
         let w : ledgerOf h ≡ ledgerTo I (ledgerOf g) t =
-        e ∙ ap (λ (x : lent.Ledger). ledgerTo I x t) (p .1) ∙ one-more I (ledgerOf g) t (t - 1) upTo (omega arith) in
+        e ∙ ap (λ (x : lent.Ledger). ledgerTo I x t) (p .1) ∙ one-more I (ledgerOf g) t s next later in
         record { told = sym z; ledger = rw z w }
 
 -- ---- a counted refresh

@@ -1,6 +1,7 @@
--- Laws of the account in closed form, and of what a lent ledger is told.
+-- Laws of the account in closed form, of what a lent ledger is told, and of its deadline.
 pub mod Closing
 pub mod Moves
 pub mod Admission
 pub mod Enters
 pub mod Promises
+pub mod Deadlines

@@ -1,26 +1,19 @@
 -- What a ledger that is moved on comes to, as its promise says it.
 use Prim.Native.Nat.{ℕ, suc, _-_}
 use mathlib.Core.Path.{_≡_, refl, sym, _∙_}
-use mathlib.Core.Bool.{_&&_}
 use mathlib.Core.Option.{Option, none, some}
 use native.Mathlib.Omega.{arith}
-use lib.Dec.{leb}
 use lib.IntN.{ℤ, subℕ}
 use Rattle.rules.specs.Checks.{Refusal, named}
 use Rattle.rules.specs.Account.{lpddr3}
-use Rattle.rules.specs.Lent.{owingGood, refreshedGood, ledgerTo, failingTo}
+use Rattle.rules.specs.Lent.{ledgerTo, failingTo}
 use Rattle.rules.specs.Lent as lent
-use Rattle.rules.proofs.Taken.{owing-biased}
 use Rattle.ledger.specs.declared.Ledger.{Ledger}
 use Rattle.ledger.specs.declared.Answer.{Answer}
 use Rattle.ledger.specs.declared.Answer.the-variants.{Done, Overdue}
 use Rattle.ledger.specs.declared.After.{After}
 use Rattle.ledger.specs.Values.{ledgerOf, refusalOf, unlessRefused, Left}
 use Rattle.ledger.specs.Parts.{stands, breaks, outcome, idleTo}
-
-pub sound-is : (g : Ledger) → (owingGood (ledgerOf g .owing) && refreshedGood (ledgerOf g)) ≡ (leb (g .owed) 16 && leb (g .refreshed) (g .at))
-unfolding ledgerOf refreshedGood
-sound-is g = rw (owing-biased (g .owed))
 
 -- an outcome is one of the two, and tells the account apart
 told-stands : (z w : ℤ) (o : Option (ℕ × ℕ)) → outcome z o ≡ stands w → (z ≡ w) × (o ≡ none)

@@ -1,12 +1,12 @@
 -- The promise of each public function determines its answer and the ledger that it leaves.
-use Prim.Native.Nat.{ℕ, _+_, _-_, _≤_, _<_}
+use Prim.Native.Nat.{ℕ, _-_, _≤_, _<_}
 use mathlib.Core.Path.{_≡_, refl, ap, sym, _∙_}
 use mathlib.Core.Logic.{⊎-elim}
 use mathlib.Core.Bool.{true, false, cond}
 use mathlib.Core.Option.{Option, none, some}
 use native.Mathlib.Omega.{arith}
 use lib.Dec.{ltb, eqb}
-use lib.IntN.{ℤ, pos, negsuc, subℕ}
+use lib.IntN.{subℕ}
 use Rattle.rules.specs.Checks.{Refusal, refusal}
 use Rattle.rules.specs.Lent as lent
 use Rattle.rules.proofs.Tests.{lt-cases}
@@ -18,6 +18,7 @@ use Rattle.ledger.specs.declared.After.{After}
 use Rattle.ledger.specs.Values.{ledgerOf, stored, codeOf, refusalOf, Left}
 use Rattle.ledger.proofs.calls.moved as moved
 use Rattle.ledger.proofs.calls.entered as entered
+use Rattle.ledger.proofs.calls.deadline as deadline
 use Rattle.ledger.proofs.move_on as move-on
 
 -- the case that has these numbers
@@ -61,6 +62,12 @@ entered-says w = entered.clauses (w .𝓤) (w .H) (w .𝓖 .A) (w .𝓜 .mem) (w
 
 pub entered-determined : Determined entered.ended entered-says
 entered-determined = determined entered.ended entered-says (λ κs a r e. fact-of _) (λ κs a r r′ ws ws′ p p′. (one-left _ _ _ r r′ p p′, refl))
+
+abbrev deadline-says : Promise deadline.ended
+deadline-says w = deadline.clauses (w .𝓤) (w .H) (w .𝓖 .A) (w .𝓜 .mem) (w .𝓡 .run)
+
+pub deadline-determined : Determined deadline.ended deadline-says
+deadline-determined = determined deadline.ended deadline-says (λ κs a r e. fact-of _) (λ κs a r r′ ws ws′ p p′. (p ∙ sym p′, refl))
 
 abbrev move-on-says : Promise move-on.ended
 move-on-says w = move-on.clauses (w .𝓤) (w .H) (w .𝓖 .A) (w .𝓜 .mem) (w .𝓡 .run)

@@ -1,5 +1,5 @@
 -- The parts of the account: idle time in closed form, a ledger moved on or taken through an entry's cycle, what it is asked.
-use Prim.Native.Nat.{ℕ, suc, _-_, _≤_, _<_, _^_}
+use Prim.Native.Nat.{ℕ, suc, _-_, _≤_, _<_}
 use mathlib.Core.Path.{_≡_}
 use mathlib.Core.List.{[], _∷_}
 use mathlib.Core.Option.{Option, none, some}
@@ -36,13 +36,10 @@ unfoldable pub idleTo : (I at owed refreshed j : ℕ) → Outcome
 idleTo I at owed refreshed j = outcome (idle 8 I (subℕ owed 8) at j) (firstIdle lpddr3 I (subℕ owed 8) refreshed at j)
 
 -- what the closed form asks
-pub record IdleArgs (I at owed refreshed to : ℕ) : Type 0 where
+pub record IdleArgs (I at owed to : ℕ) : Type 0 where
   pub some : 0 < I
-  pub small : I < 2 ^ 32
   pub low : owed ≤ 16
-  pub since : refreshed < 2 ^ 32
   pub later : at ≤ to
-  pub stamp : to < 2 ^ 32
 
 -- the number that stands is within the limit
 pub record IdleDone (I at owed refreshed to : ℕ) (r : Idle) : Type 0 where

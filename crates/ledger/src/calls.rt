@@ -1,37 +1,31 @@
-// The two questions that a lent ledger is asked, with a card: 13, 5, then the account.
+// What a lent ledger is asked, with a card: 13, 5, then the account.
 ghost use mathlib.Core.Path.{_≡_};
-ghost use mathlib.Core.Bool.{_&&_};
-ghost use Rattle.rules.specs.Lent.{owingGood, refreshedGood, moveRefusal, enterRefusal};
+ghost use Rattle.rules.specs.Lent.{moveRefusal, enterRefusal};
 ghost use Rattle.rules.specs.Lent as lent;
 ghost use Rattle.rules.specs.Units as units;
 ghost use Rattle.card.specs.Values.{cardOf};
-ghost use Rattle.ledger.specs.Values.{ledgerOf, Left};
+ghost use Rattle.ledger.specs.Values.{ledgerOf, Left, deadlineOf};
 ghost use Rattle.ledger.specs.Parts.{ReachArgs, admitted, accountOf, newOf, askedOf};
 use crate::After;
 use crate::Answer;
 use crate::Ledger;
+use crate::account;
 use crate::entering;
 use crate::moving;
 use card::Card;
 
-// What 13 says of a ledger.
-fn sound(ledger: Ledger) -> bool
-    ensures { λ r. ⌜ r ≡ (owingGood (ledgerOf ledger .owing) && refreshedGood (ledgerOf ledger)) ⌝ }
+// Whether 13 lets the ledger and its card pass.
+fn sound(ledger: Ledger, card: Card) -> bool
+    ensures { λ r. ⌜ r ≡ lent.ledgerGood (cardOf card) (ledgerOf ledger) ⌝ }
 {
-    if 16 < ledger.owed {
-        return false;
-    }
-    ledger.refreshed <= ledger.at
+    card::in_range(card) & (ledger.owed <= 16) & (ledger.refreshed <= ledger.at)
 }
 
 // 13, then 5: 0 where a ledger that comes with this card may be asked about this cycle.
 fn admission(ledger: Ledger, card: Card, to: u32) -> u8
     ensures { λ r. ⌜ r ≡ admitted (cardOf card) (ledgerOf ledger) to ⌝ }
 {
-    if !card::in_range(card) {
-        return 13;
-    }
-    if !sound(ledger) {
+    if !sound(ledger, card) {
         return 13;
     }
     if to < ledger.at {
@@ -76,4 +70,19 @@ pub fn entered(ledger: Ledger, card: Card, stamp: u32, counted: bool) -> After
     ensures { λ r. ⌜ Left (enterRefusal counted (cardOf card) (ledgerOf ledger) stamp) (ledgerOf ledger) (lent.entered counted (cardOf card) (ledgerOf ledger) stamp) r ⌝ }
 {
     asked(ledger, card, stamp, true, counted)
+}
+
+// The first cycle at which 19 or 20 fails with no counted refresh; 0 where 13 refuses the ledger or its card.
+pub fn deadline(ledger: Ledger, card: Card) -> u64
+    ensures { λ r. ⌜ r ≡ deadlineOf card ledger ⌝ }
+{
+    if !sound(ledger, card) {
+        return 0;
+    }
+    account::closed(
+        card::interval(card),
+        ledger.at,
+        ledger.owed,
+        ledger.refreshed,
+    )
 }

@@ -10,6 +10,7 @@ mod calls;
 mod entering;
 mod moving;
 
+pub use calls::deadline;
 pub use calls::entered;
 pub use calls::moved;
 

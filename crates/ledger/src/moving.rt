@@ -26,13 +26,7 @@ pub fn reach(ledger: Ledger, interval: u32, to: u32) -> After
     let at = ledger.at;
     let owed = ledger.owed;
     let refreshed = ledger.refreshed;
-    match account::idle_to(
-        interval as u64,
-        at as u64,
-        owed,
-        refreshed as u64,
-        to as u64,
-    ) {
+    match account::idle_to(interval, at, owed, refreshed, to) {
         Idle::Stands(x) => After {
             ledger: Ledger {
                 at: to,

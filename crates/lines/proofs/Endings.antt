@@ -1,137 +1,106 @@
--- The commonest commands by the first levels of their pins, and what their lines have behind the stamp.
-use Prim.Native.Nat.{ℕ, zero, suc, _+_, _/_, _%_, _<_}
-use mathlib.Core.Path.{_≡_, refl, ap, _∙_}
-use mathlib.Core.Bool.{true, false}
-use mathlib.Core.List.{[], _∷_}
+-- The commonest commands by their kinds, and what their lines have behind the stamp.
+use Prim.Native.Nat.{ℕ, zero, suc, _+_, _*_, _-_, _/_, _%_, _≤_, _<_}
+use mathlib.Core.Path.{_≡_, refl}
+use mathlib.Core.Bool.{Bool, true, false, _&&_}
+use mathlib.Core.Logic.{⊎-elim}
+use mathlib.Core.List.{[], _∷_, _++_}
 use native.Mathlib.Omega.{arith}
-use lib.Dec.{eqb}
-use borrow.Author.Tests.{eqb-true, eq-eqb, ne-eqb}
-use Rattle.rules.specs.Bits.{bits, on}
-use Rattle.rules.specs.Commands.{Command, nop, act, rd, wr, pre, Kind, NOP, ACT, RD, WR, PRE, code, is, kindOf, carries, bare, bankOf, apOf}
+use lib.Dec.{leb, ltb, eqb}
+use lib.ListN.{length, getD, List·getD-eq-default}
+use borrow.Author.Tests.{eqb-true, leb-true, le-leb, lt-leb}
+use Rattle.rules.specs.Commands.{Command, Kind, NOP, MRW, MRR, REFPB, REFAB, ACT, RD, WR, PRE, PREA, RESERVED, code, is, kindOf, carries, bare, bankOf, apOf}
 use Rattle.rules.specs.Past.{bankAt}
-use Rattle.rules.specs.Pins.{byLevels, kindAt, gathered, rowRuns, columnRuns, ofKind, decode}
+use Rattle.rules.specs.Pins.{kindAt, ofKind}
 use Rattle.rules.specs.Entries as entries
 use Rattle.rules.specs.Lines.{nameOf, showsBank, decimal}
-use Rattle.pins.specs.Table.{kindWith}
-use Rattle.pins.proofs.Codes.{by-kind}
+use Rattle.rules.proofs.Tests.{both-true, lt-cases, nowhere}
+use Rattle.rules.proofs.Onward.{onward, at-each}
+use Rattle.pins.specs.Counter.{counterOn}
+use Rattle.pins.proofs.Codes.{by-edge}
 use Rattle.pins.proofs.Places.{gathers}
-use Rattle.lines.specs.Quick.{nameAt, sizeAt, markAt, quickOn, TailGood}
+use Rattle.lines.specs.Parts.{namePart, bankPart}
+use Rattle.lines.specs.Quick.{tails, noTail, tailAt, TailFits, tailPart, TailGood}
+use Rattle.lines.specs.Runs.{commandOn}
 use Rattle.lines.proofs.Decimals.{one-digit}
 
--- ---- the kinds by their first levels
-rd-levels : (x : ℕ) → x % 8 ≡ 5 → kindAt x ≡ RD
-unfolding kindAt on bits byLevels
-rd-levels x h = rw (eq-eqb (x / 1 % 2) 1 (omega arith), ne-eqb (x / 2 % 2) 1 (omega arith), eq-eqb (x / 4 % 2) 1 (omega arith))
+-- ---- the table of tails
+below : (k : ℕ) → k < 10 → noTail ≡ tailAt k
+unfolding tailAt
+below k h = rw (lt-leb 10 k h)
 
-wr-levels : (x : ℕ) → x % 8 ≡ 1 → kindAt x ≡ WR
-unfolding kindAt on bits byLevels
-wr-levels x h = rw (eq-eqb (x / 1 % 2) 1 (omega arith), ne-eqb (x / 2 % 2) 1 (omega arith), ne-eqb (x / 4 % 2) 1 (omega arith))
+beyond : (k : ℕ) → 18 ≤ k → noTail ≡ tailAt k
+unfolding tailAt
+beyond k h = rw (le-leb 10 k (omega arith), List·getD-eq-default tails noTail {n = k - 10} (omega arith))
 
-act-levels : (x : ℕ) → x % 4 ≡ 2 → kindAt x ≡ ACT
-unfolding kindAt on bits byLevels
-act-levels x h = rw (ne-eqb (x / 1 % 2) 1 (omega arith), eq-eqb (x / 2 % 2) 1 (omega arith))
+low-keys : (k : ℕ) → k < 14 → (k ≡ 10 → ⊥) → (k ≡ 11 → ⊥) → (k ≡ 12 → ⊥) → (k ≡ 13 → ⊥) → k < 10
+low-keys k h a b c d = omega arith
 
-pre-levels : (x : ℕ) → x % 32 ≡ 11 → kindAt x ≡ PRE
-unfolding kindAt on bits byLevels
-pre-levels x h =
-    rw (
-      eq-eqb (x / 1 % 2) 1 (omega arith),
-      eq-eqb (x / 2 % 2) 1 (omega arith),
-      ne-eqb (x / 4 % 2) 1 (omega arith),
-      eq-eqb (x / 8 % 2) 1 (omega arith),
-      ne-eqb (x / 16 % 2) 1 (omega arith),
-    )
+high-keys : (k : ℕ) → 14 ≤ k → (k ≡ 14 → ⊥) → (k ≡ 15 → ⊥) → (k ≡ 16 → ⊥) → (k ≡ 17 → ⊥) → 18 ≤ k
+high-keys k h a b c d = omega arith
 
-nop-levels : (x : ℕ) → x % 8 ≡ 7 → kindAt x ≡ NOP
-unfolding kindAt on bits byLevels
-nop-levels x h = rw (eq-eqb (x / 1 % 2) 1 (omega arith), eq-eqb (x / 2 % 2) 1 (omega arith), eq-eqb (x / 4 % 2) 1 (omega arith))
+pub other-key : (k : ℕ) → (k ≡ 10 → ⊥) → (k ≡ 11 → ⊥) → (k ≡ 12 → ⊥) → (k ≡ 13 → ⊥) → (k ≡ 14 → ⊥) → (k ≡ 15 → ⊥) → (k ≡ 16 → ⊥) → (k ≡ 17 → ⊥)
+    → noTail ≡ tailAt k
+other-key k a b c d e f g h =
+    ⊎-elim (λ (p : (k < 14) × (ltb k 14 ≡ true)). below k (low-keys k (p .0) a b c d)) (λ (p : (14 ≤ k) × (ltb k 14 ≡ false)). beyond k (high-keys k (p .0) e f g h))
+    (lt-cases k 14)
 
--- with clock enable high, CS_n low and nothing above
-of-levels : (p : ℕ) (k : Kind) → p / 1048576 ≡ 2 → kindAt (p % 1024) ≡ k → decode p ≡ ofKind (kindWith (code k)) p
-of-levels p k e l = by-kind p (omega arith) (λ (o : p / 1048576 % 2 ≡ 1). absurd (omega arith)) ∙ ap (λ (x : Kind). ofKind (kindWith (code x)) p) l
+-- each that is there
+abbrev fitsAt : ℕ → Bool
+fitsAt k = eqb (length (tailAt k)) 8 && (leb 6 (getD (tailAt k) 0 0) && leb (getD (tailAt k) 0 0) 7)
 
--- ---- their names and banks
+tail-fits : (k : ℕ) → 10 ≤ k → k < 18 → TailFits (tailAt k)
+unfolding onward tailAt
+tail-fits k l h =
+    let t = both-true (eqb (length (tailAt k)) 8) (leb 6 (getD (tailAt k) 0 0) && leb (getD (tailAt k) 0 0) 7) (at-each fitsAt 10 8 refl k l h) in
+    let s = both-true (leb 6 (getD (tailAt k) 0 0)) (leb (getD (tailAt k) 0 0) 7) (t .1) in
+    record { long = eqb-true _ _ (t .0); some = leb-true _ _ (s .0); fits = leb-true _ _ (s .1) }
+
+-- ---- what the tails say
 bank-digit : (b : ℕ) → b < 8 → decimal b ≡ (48 + b) ∷ []
 bank-digit b h = let e : b % 10 ≡ b = omega arith in rw e at (one-digit b (omega arith))
 
-with-ap : (b col a : ℕ) → b < 8 → a < 2
-    → TailGood (rd b col (eqb a 1)) (32 ∷ 82 ∷ 68 ∷ 65 ∷ []) (3 + a) (48 + b) × TailGood (wr b col (eqb a 1)) (32 ∷ 87 ∷ 82 ∷ 65 ∷ []) (3 + a) (48 + b)
-unfolding nameOf showsBank bankAt bankOf apOf is code kindOf carries bare
-with-ap b col zero h l =
-    (record { long = refl; some = omega arith; fits = omega arith; text = λ n. rw (bank-digit b h) }, record { long = refl; some = omega arith; fits = omega arith; text = λ n. rw (bank-digit b h) })
-with-ap b col (suc zero) h l =
-    (record { long = refl; some = omega arith; fits = omega arith; text = λ n. rw (bank-digit b h) }, record { long = refl; some = omega arith; fits = omega arith; text = λ n. rw (bank-digit b h) })
-with-ap b col (suc (suc a)) h l = absurd (omega arith)
+-- a tail with this mark says this command, which leaves the round counter as it is
+abbrev Says : (k mark : ℕ) → Command → Type 0
+Says k mark c = ((n : ℕ) → tailPart (tailAt k) mark ≡ namePart c ++ bankPart c n ++ (10 ∷ [])) × ((n : ℕ) → counterOn c n ≡ n)
 
-of-bank : (b row : ℕ) → b < 8
-    → TailGood (act b row) (32 ∷ 65 ∷ 67 ∷ 84 ∷ []) 4 (48 + b) × TailGood (pre b) (32 ∷ 80 ∷ 82 ∷ 69 ∷ []) 4 (48 + b)
-unfolding nameOf showsBank bankAt bankOf apOf is code kindOf carries bare
-of-bank b row h =
-    (record { long = refl; some = omega arith; fits = omega arith; text = λ n. rw (bank-digit b h) }, record { long = refl; some = omega arith; fits = omega arith; text = λ n. rw (bank-digit b h) })
+no-key : (k : ℕ) → noTail ≡ tailAt k → 0 < getD (tailAt k) 0 0 → ⊥
+no-key k e h = nowhere (rw (← e) at h)
 
-of-none : TailGood nop (32 ∷ 78 ∷ 79 ∷ 80 ∷ []) 4 45
-unfolding nameOf showsBank bankAt bankOf apOf is code kindOf carries bare
-of-none = record { long = refl; some = omega arith; fits = omega arith; text = λ n. refl }
+early : (k a : ℕ) → k ≤ 4 → a < 2 → 0 < getD (tailAt (2 * k + a)) 0 0 → ⊥
+early k a h l = no-key (2 * k + a) (below (2 * k + a) (omega arith))
 
--- ---- straight from the pins
-abbrev Taken : (p : ℕ) → Command
-Taken p = entries.commandOf (decode p)
+late : (k a : ℕ) → 9 ≤ k → 0 < getD (tailAt (2 * k + a)) 0 0 → ⊥
+late k a h = no-key (2 * k + a) (beyond (2 * k + a) (omega arith))
 
-rd-tail : (p : ℕ) → p / 1048576 ≡ 2 → p % 8 ≡ 5 → TailGood (Taken p) (32 ∷ 82 ∷ 68 ∷ 65 ∷ []) (3 + p / 1024 % 2) (48 + p / 128 % 8)
-unfolding code kindWith ofKind entries.commandOf
-rd-tail p e h =
-    let g = gathers p in
-    rw (of-levels p RD e (rd-levels (p % 1024) (omega arith)), ← g .2, ← g .5)
-    (with-ap (p / 128 % 8) (gathered columnRuns p) (p / 1024 % 2) (omega arith) (omega arith) .0)
+-- by the kind and auto-precharge
+of-kind : (k : Kind) (p a : ℕ) → a ≡ p / 1024 % 2 → 0 < getD (tailAt (2 * code k + a)) 0 0
+    → (10 ≤ 2 * code k + a) × (2 * code k + a < 18) × Says (2 * code k + a) (48 + p / 128 % 8) (entries.commandOf (ofKind k p))
+unfolding code tailAt ofKind entries.commandOf nameOf showsBank bankAt bankOf apOf is kindOf carries bare counterOn
+of-kind NOP p a e s = absurd (early 0 a (omega arith) (omega arith) s)
+of-kind MRW p a e s = absurd (early 1 a (omega arith) (omega arith) s)
+of-kind MRR p a e s = absurd (early 2 a (omega arith) (omega arith) s)
+of-kind REFPB p a e s = absurd (early 3 a (omega arith) (omega arith) s)
+of-kind REFAB p a e s = absurd (early 4 a (omega arith) (omega arith) s)
+of-kind ACT p zero e s = (omega arith, omega arith, rw (← gathers p .2) (λ n. rw (bank-digit (p / 128 % 8) (omega arith)), λ n. refl))
+of-kind ACT p (suc zero) e s = (omega arith, omega arith, rw (← gathers p .2) (λ n. rw (bank-digit (p / 128 % 8) (omega arith)), λ n. refl))
+of-kind ACT p (suc (suc a)) e s = absurd (omega arith)
+of-kind RD p zero e s = (omega arith, omega arith, rw (← gathers p .2, ← gathers p .5, ← e) (λ n. rw (bank-digit (p / 128 % 8) (omega arith)), λ n. refl))
+of-kind RD p (suc zero) e s = (omega arith, omega arith, rw (← gathers p .2, ← gathers p .5, ← e) (λ n. rw (bank-digit (p / 128 % 8) (omega arith)), λ n. refl))
+of-kind RD p (suc (suc a)) e s = absurd (omega arith)
+of-kind WR p zero e s = (omega arith, omega arith, rw (← gathers p .2, ← gathers p .5, ← e) (λ n. rw (bank-digit (p / 128 % 8) (omega arith)), λ n. refl))
+of-kind WR p (suc zero) e s = (omega arith, omega arith, rw (← gathers p .2, ← gathers p .5, ← e) (λ n. rw (bank-digit (p / 128 % 8) (omega arith)), λ n. refl))
+of-kind WR p (suc (suc a)) e s = absurd (omega arith)
+of-kind PRE p zero e s = (omega arith, omega arith, rw (← gathers p .2) (λ n. rw (bank-digit (p / 128 % 8) (omega arith)), λ n. refl))
+of-kind PRE p (suc zero) e s = (omega arith, omega arith, rw (← gathers p .2) (λ n. rw (bank-digit (p / 128 % 8) (omega arith)), λ n. refl))
+of-kind PRE p (suc (suc a)) e s = absurd (omega arith)
+of-kind PREA p a e s = absurd (late 9 a (omega arith) s)
+of-kind RESERVED p a e s = absurd (late 10 a (omega arith) s)
 
-wr-tail : (p : ℕ) → p / 1048576 ≡ 2 → p % 8 ≡ 1 → TailGood (Taken p) (32 ∷ 87 ∷ 82 ∷ 65 ∷ []) (3 + p / 1024 % 2) (48 + p / 128 % 8)
-unfolding code kindWith ofKind entries.commandOf
-wr-tail p e h =
-    let g = gathers p in
-    rw (of-levels p WR e (wr-levels (p % 1024) (omega arith)), ← g .2, ← g .5)
-    (with-ap (p / 128 % 8) (gathered columnRuns p) (p / 1024 % 2) (omega arith) (omega arith) .1)
+abbrev keyOn : ℕ → ℕ
+keyOn p = 2 * code (kindAt (p % 1024)) + p / 1024 % 2
 
-act-tail : (p : ℕ) → p / 1048576 ≡ 2 → p % 4 ≡ 2 → TailGood (Taken p) (32 ∷ 65 ∷ 67 ∷ 84 ∷ []) 4 (48 + p / 128 % 8)
-unfolding code kindWith ofKind entries.commandOf
-act-tail p e h =
-    rw (of-levels p ACT e (act-levels (p % 1024) (omega arith)), ← gathers p .2) (of-bank (p / 128 % 8) (gathered rowRuns p) (omega arith) .0)
-
-pre-tail : (p : ℕ) → p / 1048576 ≡ 2 → p % 32 ≡ 11 → TailGood (Taken p) (32 ∷ 80 ∷ 82 ∷ 69 ∷ []) 4 (48 + p / 128 % 8)
-unfolding code kindWith ofKind entries.commandOf
-pre-tail p e h =
-    rw (of-levels p PRE e (pre-levels (p % 1024) (omega arith)), ← gathers p .2) (of-bank (p / 128 % 8) 0 (omega arith) .1)
-
-nop-tail : (p : ℕ) → p / 1048576 ≡ 2 → p % 8 ≡ 7 → TailGood (Taken p) (32 ∷ 78 ∷ 79 ∷ 80 ∷ []) 4 45
-unfolding code kindWith ofKind entries.commandOf
-nop-tail p e h = rw (of-levels p NOP e (nop-levels (p % 1024) (omega arith))) of-none
-
--- ---- by the levels
-pub nop-name : (n : ℕ) → (n ≡ 1 → ⊥) → (n ≡ 2 → ⊥) → (n ≡ 3 → ⊥) → (n ≡ 5 → ⊥) → (n ≡ 6 → ⊥) → 32 ∷ 78 ∷ 79 ∷ 80 ∷ [] ≡ nameAt n
-nop-name zero a b c d e = refl
-nop-name (suc zero) a b c d e = absurd (a refl)
-nop-name (suc (suc zero)) a b c d e = absurd (b refl)
-nop-name (suc (suc (suc zero))) a b c d e = absurd (c refl)
-nop-name (suc (suc (suc (suc zero)))) a b c d e = refl
-nop-name (suc (suc (suc (suc (suc zero))))) a b c d e = absurd (d refl)
-nop-name (suc (suc (suc (suc (suc (suc zero)))))) a b c d e = absurd (e refl)
-nop-name (suc (suc (suc (suc (suc (suc (suc n))))))) a b c d e = refl
-
-pre-only : (p : ℕ) → p % 8 ≡ 3 → quickOn p ≡ true → p % 32 ≡ 11
-pre-only p e q = eqb-true (p % 32) 11 (rw (ne-eqb (p % 4) 0 (omega arith), eq-eqb (p % 4) 3 (omega arith), ne-eqb (p % 8) 7 (omega arith)) at q)
-
-not-quick : (p : ℕ) → p % 4 ≡ 0 → quickOn p ≡ true → ⊥
-not-quick p e q = let f : false ≡ true = rw (eq-eqb (p % 4) 0 e) at q in absurd (let z : _≡_ {A = ℕ} 0 1 = cc in omega arith)
-
-by-levels : (n p : ℕ) → n ≡ p % 8 → p / 1048576 ≡ 2 → quickOn p ≡ true → TailGood (Taken p) (nameAt n) (sizeAt n p) (markAt n p)
-by-levels zero p e t q = absurd (not-quick p (omega arith) q)
-by-levels (suc zero) p e t q = wr-tail p t (omega arith)
-by-levels (suc (suc zero)) p e t q = act-tail p t (omega arith)
-by-levels (suc (suc (suc zero))) p e t q = pre-tail p t (pre-only p (omega arith) q)
-by-levels (suc (suc (suc (suc zero)))) p e t q = absurd (not-quick p (omega arith) q)
-by-levels (suc (suc (suc (suc (suc zero))))) p e t q = rd-tail p t (omega arith)
-by-levels (suc (suc (suc (suc (suc (suc zero)))))) p e t q = act-tail p t (omega arith)
-by-levels (suc (suc (suc (suc (suc (suc (suc zero))))))) p e t q = nop-tail p t (omega arith)
-by-levels (suc (suc (suc (suc (suc (suc (suc (suc n)))))))) p e t q = absurd (omega arith)
-
-pub quick-tail : (p : ℕ) → p / 1048576 ≡ 2 → quickOn p ≡ true → TailGood (Taken p) (nameAt (p % 8)) (sizeAt (p % 8) p) (markAt (p % 8) p)
-quick-tail p = by-levels (p % 8) p refl
+pub quick-tail : (p : ℕ) → p / 1048576 ≡ 2 → 0 < getD (tailAt (keyOn p)) 0 0 → TailGood (commandOn p) (tailAt (keyOn p)) (48 + p / 128 % 8)
+quick-tail p high s =
+    let said = of-kind (kindAt (p % 1024)) p (p / 1024 % 2) refl s in
+    rw (by-edge p (omega arith) (λ (o : p / 1048576 % 2 ≡ 1). absurd (omega arith)))
+    (record { fits = tail-fits (keyOn p) (said .0) (said .1); text = said .2 .0; still = said .2 .1 })

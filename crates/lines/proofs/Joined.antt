@@ -1,6 +1,6 @@
 -- The lines of the rules, from the texts that are put one behind another.
 use Prim.Native.Nat.{ℕ}
-use mathlib.Core.Path.{_≡_, refl}
+use mathlib.Core.Path.{_≡_, refl, sym, _∙_}
 use mathlib.Core.List.{List, [], _∷_, _++_, append-assoc}
 use lib.IntN.{subℕ}
 use Rattle.rules.specs.Past.{Taken}
@@ -18,9 +18,9 @@ pub entry-joined : (e : Taken) (n : ℕ) → decimal (e .stamp) ++ (namePart (e 
 unfolding entryLine
 entry-joined e n = rw (← append-assoc (decimal (e .stamp)) (namePart (e .cmd)) (bankPart (e .cmd) n))
 
--- with the name and the bank as one text
-pub quick-joined : (e : Taken) (n : ℕ) (tail : List ℕ) → tail ≡ namePart (e .cmd) ++ bankPart (e .cmd) n → decimal (e .stamp) ++ tail ++ (10 ∷ []) ≡ entryLine e n
-quick-joined e n tail h = rw h (entry-joined e n)
+-- with all that stands behind the stamp as one text
+pub quick-joined : (e : Taken) (n : ℕ) (tail : List ℕ) → tail ≡ namePart (e .cmd) ++ bankPart (e .cmd) n ++ (10 ∷ []) → decimal (e .stamp) ++ tail ≡ entryLine e n
+quick-joined e n tail h = rw h (sym (append-assoc (decimal (e .stamp)) (namePart (e .cmd) ++ bankPart (e .cmd) n) (10 ∷ [])) ∙ entry-joined e n)
 
 pub accepted-joined : (m n o : ℕ)
     → acceptedWord ++ decimal m ++ (32 ∷ decimal n) ++ owedPart o ++ (10 ∷ []) ≡ verdictLine (accepted m n (subℕ o 8))

@@ -1,42 +1,67 @@
 -- The digits of a stamp, the last four apart.
-use Prim.Native.Nat.{ℕ, _+_, _*_, _/_, _%_, _<_}
+use Prim.Native.Nat.{ℕ, _+_, _*_, _/_, _%_, _≤_, _<_}
 use mathlib.Core.Path.{_≡_, refl, _∙_}
-use mathlib.Core.List.{List, [], _∷_}
+use mathlib.Core.Bool.{Bool, true, _&&_}
+use mathlib.Core.List.{List, [], _∷_, _++_}
 use native.Mathlib.Nat.{zero-add}
 use native.Mathlib.Omega.{arith}
-use lib.ListN.{length}
+use lib.Dec.{eqb}
+use lib.ListN.{length, getD, take}
 use lib.Seq.{take-at}
+use borrow.Author.Tests.{eqb-true}
 use Rattle.rules.specs.Lines.{decimal}
+use Rattle.rules.proofs.Tests.{both-true}
+use Rattle.rules.proofs.Onward.{onward, at-each}
+use Rattle.lines.specs.declared.stamps.Lead.{Lead}
 use Rattle.lines.specs.Written.{Put}
-use Rattle.lines.specs.Quick.{lastFour, LeadGood}
-use Rattle.lines.proofs.Decimals.{one-digit, short}
+use Rattle.lines.specs.Quick.{lastFour, PairsGood, LeadGood}
+use Rattle.lines.proofs.Decimals.{short, four-more}
 
--- ---- four digits as the bytes of one number
-abbrev pairOf : ℕ → ℕ
-pairOf x = 12336 + x / 10 + 256 * (x % 10)
+-- ---- two digits at a time
+module _ (pairs : List ℕ) where
+  abbrev twoAt : ℕ → Bool
+  twoAt k = eqb (getD pairs (k * 2) 0) (48 + k / 10) && eqb (getD pairs (k * 2 + 1) 0) (48 + k % 10)
 
-abbrev fourOf : ℕ → ℕ
-fourOf x = pairOf (x % 10000 / 100) + 65536 * pairOf (x % 10000 % 100)
+  pub pairs-good : onward twoAt 0 100 ≡ true → PairsGood pairs
+  pairs-good all = record { tens = λ k h. eqb-true _ _ (each k h .0); ones = λ k h. eqb-true _ _ (each k h .1) }
+    where
+      each : (k : ℕ) → k < 100 → (eqb (getD pairs (k * 2) 0) (48 + k / 10) ≡ true) × (eqb (getD pairs (k * 2 + 1) 0) (48 + k % 10) ≡ true)
+      each k h = both-true _ _ (at-each twoAt 0 100 all k (omega arith) (omega arith))
 
-apart : (w a b c d : ℕ) → a < 10 → b < 10 → c < 10 → d < 10 → w ≡ 12336 + a + 256 * b + 65536 * (12336 + c + 256 * d)
-    → (w % 256 ≡ 48 + a) × (w / 256 % 256 ≡ 48 + b) × (w / 65536 % 256 ≡ 48 + c) × (w / 16777216 % 256 ≡ 48 + d)
-apart w a b c d la lb lc ld e = (omega arith, omega arith, omega arith, omega arith)
-
-pub four-bytes-of : (x : ℕ) → fourOf x % 256 ∷ fourOf x / 256 % 256 ∷ fourOf x / 65536 % 256 ∷ fourOf x / 16777216 % 256 ∷ [] ≡ lastFour x
-four-bytes-of x =
-    let a : x % 10000 / 100 / 10 ≡ x / 1000 % 10 = omega arith in
-    let b : x % 10000 / 100 % 10 ≡ x / 100 % 10 = omega arith in
-    let c : x % 10000 % 100 / 10 ≡ x / 10 % 10 = omega arith in
-    let d : x % 10000 % 100 % 10 ≡ x % 10 = omega arith in
-    let p =
-    apart (fourOf x) (x / 1000 % 10) (x / 100 % 10) (x / 10 % 10) (x % 10) (omega arith) (omega arith) (omega arith) (omega arith) (rw (a, b, c, d)) in
-    rw (p .0, p .1, p .2, p .3)
+  pub four-digits : (x : ℕ) → x < 10000 → PairsGood pairs
+      → getD pairs (x / 100 * 2) 0 ∷ getD pairs (x / 100 * 2 + 1) 0 ∷ getD pairs (x % 100 * 2) 0 ∷ getD pairs (x % 100 * 2 + 1) 0 ∷ [] ≡ lastFour x
+  four-digits x h good =
+      let a : x / 100 / 10 ≡ x / 1000 % 10 = omega arith in
+      let c : x % 100 / 10 ≡ x / 10 % 10 = omega arith in
+      let d : x % 100 % 10 ≡ x % 10 = omega arith in
+      rw (good .tens (x / 100) (omega arith), good .ones (x / 100) (omega arith), good .tens (x % 100) (omega arith), good .ones (x % 100) (omega arith), a, c, d)
 
 -- ---- the digits before them
-pub lead-first : LeadGood (record { number = 0; text = 48 ∷ 32 ∷ 32 ∷ 32 ∷ 32 ∷ 32 ∷ 32 ∷ 32 ∷ []; size = 1 })
-lead-first = record { long = refl; fits = omega arith; text = rw (one-digit 0 (omega arith)) }
-
-pub lead-put : (x r : ℕ) (old new : List ℕ) → x < 1000000 → length new ≡ 8 → Put 0 (decimal x) old new r → LeadGood (record { number = x; text = new; size = r })
-lead-put x r old new h l p =
+pub lead-put : (x r : ℕ) (old new : List ℕ) → 1 ≤ x → x < 429496 → length new ≡ 8 → Put 0 (decimal x) old new r
+    → LeadGood (record { base = 10000 * x; text = new; size = r })
+lead-put x r old new l h n p =
     let e : r ≡ length (decimal x) = p .behind ∙ zero-add (length (decimal x)) in
-    record { long = l; fits = omega (arith, short 5 x (omega arith)); text = rw (e, p .memory) (take-at (decimal x) _ (length (decimal x)) refl) }
+    let q : 10000 * x / 10000 ≡ x = omega arith in
+    record {
+      long = n;
+      fits = omega (arith, short 5 x (omega arith));
+      even = omega arith;
+      from = omega arith;
+      upto = omega arith;
+      text = rw (q, e, p .memory) (take-at (decimal x) _ (length (decimal x)) refl);
+    }
+
+same-four : (q rest : ℕ) → rest < 10000 → lastFour (10000 * q + rest) ≡ lastFour rest
+same-four q rest h =
+    let a : (10000 * q + rest) / 1000 % 10 ≡ rest / 1000 % 10 = omega arith in
+    let b : (10000 * q + rest) / 100 % 10 ≡ rest / 100 % 10 = omega arith in
+    let c : (10000 * q + rest) / 10 % 10 ≡ rest / 10 % 10 = omega arith in
+    let d : (10000 * q + rest) % 10 ≡ rest % 10 = omega arith in
+    rw (a, b, c, d)
+
+pub lead-digits : (lead : Lead) (rest : ℕ) → LeadGood lead → rest < 10000 → take (lead .size) (lead .text) ++ lastFour rest ≡ decimal (lead .base + rest)
+lead-digits lead rest good h =
+    let f = good .from in
+    let m : lead .base ≡ 10000 * (lead .base / 10000) = omega (arith, good .even) in
+    let q : (lead .base + rest) / 10000 ≡ lead .base / 10000 = omega arith in
+    rw (good .text, four-more (lead .base + rest) (omega arith), q, ← same-four (lead .base / 10000) rest h, ← m)

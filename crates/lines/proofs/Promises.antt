@@ -1,18 +1,9 @@
 -- The promise of each public function determines its answer and what it leaves in the slice.
 use Rattle.rules.proofs.Determined.{Promise, Determined, determined, fact-of}
 use Rattle.lines.proofs.Puts.{one-written, one-lined}
-use Rattle.lines.proofs.entries.entry_line as entry-line
 use Rattle.lines.proofs.runs.entry_lines as entry-lines
 use Rattle.lines.proofs.verdicts.accepted_line as accepted-line
 use Rattle.lines.proofs.verdicts.refused_line as refused-line
-
-abbrev entry-line-says : Promise entry-line.ended
-entry-line-says w = entry-line.clauses (w .𝓤) (w .H) (w .𝓖 .A) (w .𝓜 .mem) (w .𝓡 .run)
-
-pub entry-line-determined : Determined entry-line.ended entry-line-says
-entry-line-determined =
-    determined entry-line.ended entry-line-says (λ κs a r e. fact-of _)
-    (λ κs a r r′ ws ws′ p p′. let one = one-written p p′ in (one .0, λ i. (one .1 i, (tt, (tt, (tt, tt))))))
 
 abbrev entry-lines-says : Promise entry-lines.ended
 entry-lines-says w = entry-lines.clauses (w .𝓤) (w .H) (w .𝓖 .A) (w .𝓜 .mem) (w .𝓡 .run)

@@ -2,11 +2,23 @@
 use Prim.Native.Nat.{ℕ, suc, _+_, _-_, _≤_, _<_}
 use mathlib.Core.Path.{_≡_, sym, ap, _∙_}
 use mathlib.Core.List.{List, [], _∷_, _++_, append-assoc}
-use native.Mathlib.Nat.{add-assoc, zero-add}
+use native.Mathlib.Nat.{add-assoc, zero-add, suc-add}
 use native.Mathlib.Numerals.{add-one}
 use native.Mathlib.Omega.{arith}
-use lib.ListN.{length, take, drop, set, length-append, length-drop, take-append-drop}
-use lib.Seq.{length-take-le, take-at, drop-at, drop-drop, set-split, take-set-le, append-snoc}
+use lib.ListN.{length, take, drop, set, length-append, length-drop, length-set, take-append-drop}
+use lib.Seq.{
+  length-take-le,
+  take-at,
+  take-append-le,
+  take-take,
+  drop-at,
+  drop-append-le,
+  drop-drop,
+  set-append-left,
+  set-split,
+  take-set-le,
+  append-snoc,
+}
 use borrow.Author.Tests.{le-leb, lt-leb}
 use Rattle.lines.specs.Written.{Written, Lined, Put, placed}
 
@@ -55,6 +67,35 @@ cover at a b old h l =
     ) in
     rw (front, rest)
 
+-- a byte within a text
+set-behind : (xs ys : List ℕ) (i b : ℕ) → set (xs ++ ys) (length xs + i) b ≡ xs ++ set ys i b
+set-behind [] ys i b = rw zero-add
+set-behind (x ∷ xs) ys i b = rw suc-add (ap (λ (l : List ℕ). x ∷ l) (set-behind xs ys i b))
+
+put-within : (at i b : ℕ) (a old : List ℕ) → at ≤ length old → i < length a → set (placed at a old) (at + i) b ≡ placed at (set a i b) old
+put-within at i b a old h l =
+    let within : set (take at old ++ a) (at + i) b ≡ take at old ++ set a i b = rw (length-take-le at old h) at (set-behind (take at old) a i b) in
+    rw (set-append-left (take at old ++ a) (drop (at + length a) old) (at + i) b (rw (length-front at a old h) (omega arith)), within, length-set)
+
+-- a text before one whose first bytes it covers
+put-under : (at k : ℕ) (a b old : List ℕ) → at + k ≤ length old → k ≤ length a → length a ≤ k + length b
+    → placed at a (placed (at + k) b old) ≡ placed at (a ++ drop (length a - k) b) old
+put-under at k a b old h n l =
+    let rest = drop (at + k + length b) old in
+    let front : take at (placed (at + k) b old) ≡ take at old =
+    rw (append-assoc (take (at + k) old) b rest, take-append-le at (take (at + k) old) (b ++ rest) (rw (length-take-le (at + k) old h) (omega arith)), take-take at (at + k) old (omega arith)) in
+    let e : at + length a ≡ at + k + (length a - k) = omega arith in
+    let behind : drop (at + length a) (placed (at + k) b old) ≡ drop (length a - k) b ++ rest =
+    rw (
+      e,
+      append-assoc (take (at + k) old) b rest,
+      ← drop-drop (length a - k) (at + k) (take (at + k) old ++ (b ++ rest)),
+      drop-at (take (at + k) old) (b ++ rest) (at + k) (length-take-le (at + k) old h),
+      drop-append-le (length a - k) b rest (omega arith),
+    ) in
+    let m : at + length (a ++ drop (length a - k) b) ≡ at + k + length b = rw (length-append, length-drop) (omega arith) in
+    rw (front, behind, m) (simp append-assoc)
+
 -- ---- in the words of the promises
 pub then : {at : ℕ} {a b old mid new : List ℕ} {p r : ℕ} → at ≤ length old → Put at a old mid p → Put p b mid new r → Put at (a ++ b) old new r
 then {at} {a} {b} {old} h x y = record {
@@ -65,8 +106,8 @@ then {at} {a} {b} {old} h x y = record {
 pub put-as : {at : ℕ} {text line old new : List ℕ} {r : ℕ} → text ≡ line → Put at text old new r → Put at line old new r
 put-as e x = rw (← e) x
 
-pub put-long : {at : ℕ} {a old new : List ℕ} {r : ℕ} → at ≤ length old → Put at a old new r → r ≤ length new
-put-long {at} {a} {old} h x = rw (x .behind, x .memory, length-append, length-front at a old h) (omega arith)
+pub put-size : {at : ℕ} {a old new : List ℕ} {r : ℕ} → at + length a ≤ length old → Put at a old new r → length new ≡ length old
+put-size {at} {a} {old} h x = rw (x .memory, length-append, length-front at a old (omega arith), length-drop) (omega arith)
 
 -- the second over the end of the first
 pub over : {at : ℕ} {a b old mid new : List ℕ} {p r : ℕ} (k : ℕ) → at ≤ length old → k ≤ length a → length a ≤ k + length b
@@ -87,6 +128,17 @@ over {at} {a} {b} {old} {mid} k h n l x y =
           (ap (placed (at + length (take k a)) b) (x .memory ∙ split) ∙
           (cover (at + length (take k a)) (drop k a) b m long less ∙ put-put at (take k a) b old h)));
     }
+
+-- the second before the end of the first
+pub under : {at : ℕ} {a b old mid new : List ℕ} {p r : ℕ} (k : ℕ) → at + k ≤ length old → k ≤ length a → length a ≤ k + length b
+    → Put (at + k) b old mid p → Put at a mid new r → Put at (a ++ drop (length a - k) b) old new p
+under {at} {a} {b} {old} k h n l x y = record {
+  behind = x .behind ∙ rw (length-append, length-drop) (omega arith);
+  memory = y .memory ∙ rw (x .memory) (put-under at k a b old h n l);
+}
+
+pub within : {at i : ℕ} {a old new : List ℕ} {r : ℕ} (b : ℕ) → at ≤ length old → i < length a → Put at a old new r → Put at (set a i b) old (set new (at + i) b) r
+within {at} {i} {a} {old} b h l x = record { behind = x .behind ∙ rw length-set; memory = rw (x .memory) (put-within at i b a old h l) }
 
 pub written : {text line old new : List ℕ} {r : ℕ} → 64 ≤ length old → r ≤ 64 → text ≡ line → Put 0 text old new r → Written line old new r
 written {text} {line} {old} h s e x = record {

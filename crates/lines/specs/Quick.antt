@@ -1,55 +1,67 @@
 -- The parts of a line that is written without decoding its command.
-use Prim.Native.Nat.{ℕ, _+_, _/_, _%_, _≤_}
+use Prim.Native.Nat.{ℕ, _+_, _*_, _-_, _/_, _%_, _≤_, _<_}
 use mathlib.Core.Path.{_≡_}
-use mathlib.Core.Bool.{Bool, true, false, cond, _||_}
+use mathlib.Core.Bool.{cond}
 use mathlib.Core.List.{List, [], _∷_, _++_}
-use lib.Dec.{eqb}
-use lib.ListN.{length, getD, take}
+use lib.Dec.{leb}
+use lib.ListN.{length, getD, take, drop, set}
 use Rattle.rules.specs.Commands.{Command}
 use Rattle.rules.specs.Lines.{decimal}
+use Rattle.pins.specs.Counter.{counterOn}
 use Rattle.lines.specs.Parts.{namePart, bankPart}
 use Rattle.lines.specs.declared.stamps.Lead.{Lead}
 
+-- ---- the stamp
 -- the last four digits of a number that has more
 abbrev pub lastFour : ℕ → List ℕ
 lastFour x = (48 + x / 1000 % 10) ∷ (48 + x / 100 % 10) ∷ (48 + x / 10 % 10) ∷ (48 + x % 10) ∷ []
 
+-- the digits of each number below 100, two of them
+pub record PairsGood (pairs : List ℕ) : Type 0 where
+  pub tens : (k : ℕ) → k < 100 → getD pairs (k * 2) 0 ≡ 48 + k / 10
+  pub ones : (k : ℕ) → k < 100 → getD pairs (k * 2 + 1) 0 ≡ 48 + k % 10
+
+-- those before the last four of a number, and of the ten thousand from it on
 pub record LeadGood (lead : Lead) : Type 0 where
   pub long : length (lead .text) ≡ 8
   pub fits : lead .size ≤ 6
-  pub text : take (lead .size) (lead .text) ≡ decimal (lead .number)
+  pub even : lead .base % 10000 ≡ 0
+  pub from : 10000 ≤ lead .base
+  pub upto : lead .base + 10000 ≤ 4294967296
+  pub text : take (lead .size) (lead .text) ≡ decimal (lead .base / 10000)
 
--- ---- the commonest commands, by the number that the levels of CA0r to CA2r are
--- a blank and the name; that of NOP where it has no one name
-abbrev pub names : List (List ℕ)
-names =
-    (32 ∷ 78 ∷ 79 ∷ 80 ∷ []) ∷
-    (32 ∷ 87 ∷ 82 ∷ 65 ∷ []) ∷
-    (32 ∷ 65 ∷ 67 ∷ 84 ∷ []) ∷
-    (32 ∷ 80 ∷ 82 ∷ 69 ∷ []) ∷
-    (32 ∷ 78 ∷ 79 ∷ 80 ∷ []) ∷
-    (32 ∷ 82 ∷ 68 ∷ 65 ∷ []) ∷
-    (32 ∷ 65 ∷ 67 ∷ 84 ∷ []) ∷ []
+-- ---- the commonest commands
+-- how many bytes stand, and these at the end of eight: a blank, the name, a blank, a bank's place and the line's end. ACT, RD, WR and PRE, each without
+-- auto-precharge and with it
+abbrev pub tails : List (List ℕ)
+tails =
+    (7 ∷ 32 ∷ 65 ∷ 67 ∷ 84 ∷ 32 ∷ 48 ∷ 10 ∷ []) ∷
+    (7 ∷ 32 ∷ 65 ∷ 67 ∷ 84 ∷ 32 ∷ 48 ∷ 10 ∷ []) ∷
+    (6 ∷ 32 ∷ 32 ∷ 82 ∷ 68 ∷ 32 ∷ 48 ∷ 10 ∷ []) ∷
+    (7 ∷ 32 ∷ 82 ∷ 68 ∷ 65 ∷ 32 ∷ 48 ∷ 10 ∷ []) ∷
+    (6 ∷ 32 ∷ 32 ∷ 87 ∷ 82 ∷ 32 ∷ 48 ∷ 10 ∷ []) ∷
+    (7 ∷ 32 ∷ 87 ∷ 82 ∷ 65 ∷ 32 ∷ 48 ∷ 10 ∷ []) ∷
+    (7 ∷ 32 ∷ 80 ∷ 82 ∷ 69 ∷ 32 ∷ 48 ∷ 10 ∷ []) ∷
+    (7 ∷ 32 ∷ 80 ∷ 82 ∷ 69 ∷ 32 ∷ 48 ∷ 10 ∷ []) ∷ []
 
-abbrev pub nameAt : ℕ → List ℕ
-nameAt n = getD names n (32 ∷ 78 ∷ 79 ∷ 80 ∷ [])
+abbrev pub noTail : List ℕ
+noTail = 0 ∷ 32 ∷ 32 ∷ 32 ∷ 32 ∷ 32 ∷ 32 ∷ 32 ∷ []
 
-abbrev pub sizeAt : (levels pins : ℕ) → ℕ
-sizeAt n p = cond (eqb (n % 4) 1) (3 + p / 1024 % 2) 4
+-- ACT's number is 5
+unfoldable pub tailAt : (key : ℕ) → List ℕ
+tailAt k = cond (leb 10 k) (getD tails (k - 10) noTail) noTail
 
-abbrev pub markAt : (levels pins : ℕ) → ℕ
-markAt n p = cond (eqb n 7) 45 (48 + p / 128 % 8)
+pub record TailFits (tail : List ℕ) : Type 0 where
+  pub long : length tail ≡ 8
+  pub some : 6 ≤ getD tail 0 0
+  pub fits : getD tail 0 0 ≤ 7
 
--- pins with clock enable high and CS_n low that are such a command
-abbrev pub quickOn : (pins : ℕ) → Bool
-quickOn p = cond (eqb (p % 4) 0) false (cond (eqb (p % 4) 3) (eqb (p % 8) 7 || eqb (p % 32) 11) true)
+-- the bytes that stand, with the bank's digit
+abbrev pub tailPart : (tail : List ℕ) → (mark : ℕ) → List ℕ
+tailPart tail mark = drop (8 - getD tail 0 0) (set tail 6 mark)
 
--- so many bytes of the name, a blank, and the bank's digit or the dash
-abbrev pub tailPart : (name : List ℕ) → (size mark : ℕ) → List ℕ
-tailPart name size mark = take size name ++ (32 ∷ mark ∷ [])
-
-pub record TailGood (c : Command) (name : List ℕ) (size mark : ℕ) : Type 0 where
-  pub long : length name ≡ 4
-  pub some : 3 ≤ size
-  pub fits : size ≤ 4
-  pub text : (counter : ℕ) → tailPart name size mark ≡ namePart c ++ bankPart c counter
+-- the tail is that of the command, which leaves the round counter as it is
+pub record TailGood (c : Command) (tail : List ℕ) (mark : ℕ) : Type 0 where
+  pub fits : TailFits tail
+  pub text : (counter : ℕ) → tailPart tail mark ≡ namePart c ++ bankPart c counter ++ (10 ∷ [])
+  pub still : (counter : ℕ) → counterOn c counter ≡ counter

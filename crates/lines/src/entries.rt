@@ -6,7 +6,7 @@ ghost use Rattle.rules.specs.Lines.{entryLine};
 ghost use Rattle.pins.specs.Values.{commandOf};
 ghost use Rattle.lines.specs.Names.{shownPart};
 ghost use Rattle.lines.specs.Parts.{namePart, bankPart};
-ghost use Rattle.lines.specs.Written.{Put, Written};
+ghost use Rattle.lines.specs.Written.{Put};
 use crate::names::Shown;
 use crate::names::face_of;
 use crate::numbers::put_next;
@@ -46,15 +46,4 @@ pub fn put_line(out: &mut [u8], at: usize, stamp: u32, command: Command, counter
     let stamped = put_number(out, at, stamp as u64);
     let shown = put_command(out, stamped, command, counter);
     put_text(out, shown, b"\n")
-}
-
-// The line of an entry that was taken at this round counter, at the start of `out`, and how many bytes it has. Where `out` has under 64 bytes of room
-// nothing is written and the answer is 0.
-pub fn entry_line(out: &mut [u8], stamp: u32, command: Command, counter: u8) -> usize
-    ensures { λ r. ⌜ Written (entryLine (record { stamp = stamp; cmd = commandOf command }) counter) (now (out .entry)) (now (out .exit)) r ⌝ }
-{
-    if out.len() < 64 {
-        return 0;
-    }
-    put_line(out, 0, stamp, command, counter)
 }

@@ -8,7 +8,6 @@ mod tails;
 mod text;
 mod verdicts;
 
-pub use entries::entry_line;
 pub use runs::entry_lines;
 pub use verdicts::accepted_line;
 pub use verdicts::refused_line;

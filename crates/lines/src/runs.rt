@@ -1,51 +1,34 @@
 // The lines of entries that stand one behind the other.
 ghost use mathlib.Core.Path.{_≡_};
-ghost use mathlib.Core.List.{_++_, _∷_, []};
-ghost use Prim.Native.Nat.{_+_, _-_, _/_, _≤_, _<_, min};
-ghost use lib.ListN.{length, take, drop};
-ghost use Rattle.rules.specs.Form.{number};
-ghost use Rattle.rules.specs.Pins as paper;
-ghost use Rattle.rules.specs.Entries as entries;
-ghost use Rattle.rules.specs.Lines.{decimal, entryLine};
+ghost use mathlib.Core.List.{_++_};
+ghost use Prim.Native.Nat.{_+_, _-_, _/_, _≤_, min};
+ghost use lib.ListN.{length, take};
 ghost use Rattle.pins.specs.Values.{commandOf};
 ghost use Rattle.lines.specs.Written.{Lined, Put};
-ghost use Rattle.lines.specs.Runs.{linesAt, lineCount};
-ghost use Rattle.lines.specs.Quick.{LeadGood, tailPart};
+ghost use Rattle.lines.specs.Runs.{commandOn, linesAt, lineCount, Added};
+ghost use Rattle.lines.specs.Quick.{LeadGood, PairsGood, TailFits, tailPart};
 use crate::entries::put_line;
 use crate::stamps::Lead;
+use crate::stamps::PAIRS;
 use crate::stamps::last_four;
+use crate::stamps::lead_of;
 use crate::stamps::renewed;
-use crate::tails::Tail;
+use crate::tails::bank_digit;
 use crate::tails::tail_on;
 use crate::text::put_text;
 use pins::Command;
 use pins::Decoded;
 
-fn wide(x: u8) -> u32
-    ensures { λ r. ⌜ (r ≡ x) × (r < 256) ⌝ }
-{
-    x as u32
-}
-
-fn stamp_at(bytes: &[u8], at: usize) -> u32
-    requires { ⌜ at + 4 ≤ length (now bytes) ⌝ }
-    ensures { λ r. ⌜ r ≡ number (take 4 (drop at (now (bytes .entry)))) ⌝ }
-{
-    let high = 256 * wide(bytes[at]) + wide(bytes[at + 1]);
-    let low = 256 * wide(bytes[at + 2]) + wide(bytes[at + 3]);
-    65536 * high + low
-}
-
-fn pins_at(bytes: &[u8], at: usize) -> u32
-    requires { ⌜ at + 3 ≤ length (now bytes) ⌝ }
-    ensures { λ r. ⌜ r ≡ number (take 3 (drop at (now (bytes .entry)))) ⌝ }
-{
-    65536 * wide(bytes[at]) + 256 * wide(bytes[at + 1]) + wide(bytes[at + 2])
+// What is kept from line to line: the place of the next, the round counter, and the first digits of a stamp.
+pub struct Next {
+    pub at: usize,
+    pub counter: u8,
+    pub lead: Lead,
 }
 
 // Pins that are no command are taken for NOP.
 fn command_on(pins: u32) -> Command
-    ensures { λ r. ⌜ commandOf r ≡ entries.commandOf (paper.decode pins) ⌝ }
+    ensures { λ r. ⌜ commandOf r ≡ commandOn pins ⌝ }
 {
     match pins::decode(pins) {
         Decoded::Good(command) => command,
@@ -54,44 +37,56 @@ fn command_on(pins: u32) -> Command
     }
 }
 
-// Each part is put over what the part before it has no use for.
-fn put_quick(out: &mut [u8], at: usize, lead: Lead, stamp: u32, tail: Tail) -> usize
-    requires { ⌜ (at + 64 ≤ length (now out)) × LeadGood lead × (lead .number ≡ stamp / 10000) × (10000 ≤ stamp) × (length (tail .0) ≡ 4) × (3 ≤ tail .1) × (tail .1 ≤ 4) ⌝ }
-    ensures memory { λ r. ⌜ Put at (decimal stamp ++ tailPart (tail .0) (tail .1) (tail .2) ++ (10 ∷ [])) (now (out .entry)) (now (out .exit)) r ⌝ }
+// Each part is put over what the part before it has no use for: the first digits, the end of the line with this mark, and between them the last four digits.
+fn put_quick(out: &mut [u8], at: usize, lead: Lead, four: [u8; 4], tail: [u8; 8], mark: u8) -> usize
+    requires { ⌜ (at + 64 ≤ length (now out)) × LeadGood lead × (length four ≡ 4) × TailFits tail ⌝ }
+    ensures memory { λ r. ⌜ Put at (take (lead .size) (lead .text) ++ four ++ tailPart tail mark) (now (out .entry)) (now (out .exit)) r ⌝ }
     ensures small { λ r. ⌜ r ≤ at + 24 ⌝ }
 {
     let text = lead.text;
     put_text(out, at, &text);
-    let four = last_four(stamp);
-    let named = put_text(out, at + lead.size, &four);
-    let name = tail.0;
-    put_text(out, named, &name);
-    let shown = [32, tail.2, 10];
-    put_text(out, named + tail.1, &shown)
+    let digits = at + lead.size;
+    let size = tail[0] as usize;
+    let end = put_text(out, digits + size - 4, &tail);
+    out[end - 2] = mark;
+    put_text(out, digits, &four);
+    end
 }
 
 // Any entry, by its command.
-fn put_plain(out: &mut [u8], at: usize, stamp: u32, pins: u32, counter: u8) -> usize
-    requires { ⌜ at + 64 ≤ length (now out) ⌝ }
-    ensures memory { λ r. ⌜ Put at (entryLine (record { stamp = stamp; cmd = entries.commandOf (paper.decode pins) }) counter) (now (out .entry)) (now (out .exit)) r ⌝ }
-    ensures small { λ r. ⌜ r ≤ at + 24 ⌝ }
+fn put_plain(out: &mut [u8], next: Next, stamp: u32, pins: u32) -> Next
+    requires { ⌜ (next .at + 64 ≤ length (now out)) × LeadGood (next .lead) ⌝ }
+    ensures { λ r. ⌜ Added next stamp pins (now (out .entry)) (now (out .exit)) r ⌝ }
 {
-    put_line(out, at, stamp, command_on(pins), counter)
+    let command = command_on(pins);
+    let counter = next.counter;
+    let lead = next.lead;
+    let end = put_line(out, next.at, stamp, command, counter);
+    Next {
+        at: end,
+        counter: pins::counter_after(counter, command),
+        lead: renewed(lead, stamp),
+    }
 }
 
-fn put_entry(out: &mut [u8], at: usize, lead: Lead, stamp: u32, pins: u32, counter: u8) -> usize
-    requires { ⌜ (at + 64 ≤ length (now out)) × LeadGood lead × (lead .number ≡ stamp / 10000) ⌝ }
-    ensures memory { λ r. ⌜ Put at (entryLine (record { stamp = stamp; cmd = entries.commandOf (paper.decode pins) }) counter) (now (out .entry)) (now (out .exit)) r ⌝ }
-    ensures small { λ r. ⌜ r ≤ at + 24 ⌝ }
+// A command that has a tail leaves the round counter as it is.
+fn put_entry(out: &mut [u8], next: Next, stamp: u32, pins: u32, pairs: &[u8; 200]) -> Next
+    requires { ⌜ (next .at + 64 ≤ length (now out)) × LeadGood (next .lead) × PairsGood (now pairs) ⌝ }
+    ensures { λ r. ⌜ Added next stamp pins (now (out .entry)) (now (out .exit)) r ⌝ }
 {
-    if stamp < 10000 {
-        return put_plain(out, at, stamp, pins, counter);
-    }
+    let lead = next.lead;
+    let rest = std::num::wrapping_sub_u32(stamp, lead.base);
     let tail = tail_on(pins);
-    if tail.1 == 0 {
-        return put_plain(out, at, stamp, pins, counter);
+    if (10000 <= rest) | (tail[0] == 0) {
+        return put_plain(out, next, stamp, pins);
     }
-    put_quick(out, at, lead, stamp, tail)
+    let four = last_four(rest, pairs);
+    let end = put_quick(out, next.at, lead, four, tail, bank_digit(pins));
+    Next {
+        at: end,
+        counter: next.counter,
+        lead: lead,
+    }
 }
 
 // How many lines, where none has more than 24 bytes and the last has 64 bytes of room.
@@ -113,25 +108,26 @@ fn least(x: usize, y: usize) -> usize
     y
 }
 
-// The lines of so many entries of ten bytes each, one behind the other, as they were taken at this round counter: as many of them as there are in `bytes`
+// The lines of so many entries of ten bytes each, one behind the other, as they were taken from this round counter on: as many of them as there are in `bytes`
 // and as there is room for, 24 bytes each and 64 for the last.
 pub fn entry_lines(out: &mut [u8], bytes: &[u8], count: usize, counter: u8) -> usize
     ensures { λ r. ⌜ Lined (linesAt (lineCount count (length (now (bytes .entry))) (length (now (out .entry)))) counter (now (bytes .entry))) (now (out .entry)) (now (out .exit)) r ⌝ }
 {
     let n = least(count, least(bytes.len() / 10, room_for(out.len())));
-    let mut lead = Lead {
-        number: 0,
-        text: *b"0       ",
-        size: 1,
+    let pairs = PAIRS;
+    let mut next = Next {
+        at: 0,
+        counter: counter,
+        lead: lead_of(1),
     };
-    let mut wrote: usize = 0;
     let mut i: usize = 0;
     while i < n {
-        let stamp = stamp_at(bytes, 10 * i + 3);
-        lead = renewed(lead, stamp / 10000);
-        let pins = pins_at(bytes, 10 * i + 7);
-        wrote = put_entry(out, wrote, lead, stamp, pins, counter);
+        // of ten bytes alone, so that the test of their length is no work
+        let at = 10 * i;
+        let end = at + 10;
+        let front = pins::entry_at(&bytes[at..end], 0);
+        next = put_entry(out, next, front.stamp, front.pins, &pairs);
         i += 1;
     }
-    wrote
+    next.at
 }

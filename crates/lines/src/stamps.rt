@@ -1,62 +1,52 @@
 // The digits of a stamp: those before the last four, which one entry most often has from the entry before it, and the last four.
 ghost use mathlib.Core.Path.{_≡_};
-ghost use Prim.Native.Nat.{_+_, _*_, _/_, _%_, _<_};
-ghost use Rattle.lines.specs.Quick.{lastFour, LeadGood};
+ghost use Prim.Native.Nat.{_≤_, _<_};
+ghost use Rattle.lines.specs.Quick.{lastFour, LeadGood, PairsGood};
 use crate::numbers::put_number;
 
-// A number below a million and its digits, so many of the eight bytes.
+// A multiple of ten thousand, and its digits but the last four, so many of the eight bytes.
 pub struct Lead {
-    pub number: u32,
+    pub base: u32,
     pub text: [u8; 8],
     pub size: usize,
 }
 
-fn lead_of(number: u32) -> Lead
-    requires { ⌜ number < 1000000 ⌝ }
-    ensures { λ r. ⌜ LeadGood r × (r .number ≡ number) ⌝ }
+// The digits of each number below 100.
+pub const PAIRS: [u8; 200] =
+    *b"00010203040506070809101112131415161718192021222324252627282930313233343536373839404142434445464748495051525354555657585960616263646566676869707172737475767778798081828384858687888990919293949596979899";
+
+pub fn lead_of(number: u32) -> Lead
+    requires { ⌜ (1 ≤ number) × (number < 429496) ⌝ }
+    ensures { λ r. ⌜ LeadGood r ⌝ }
 {
     let mut text = *b"        ";
     let size = put_number(&mut text, 0, number as u64);
     Lead {
-        number: number,
+        base: 10000 * number,
         text: text,
         size: size,
     }
 }
 
-pub fn renewed(lead: Lead, number: u32) -> Lead
-    requires { ⌜ LeadGood lead × (number < 1000000) ⌝ }
-    ensures { λ r. ⌜ LeadGood r × (r .number ≡ number) ⌝ }
+// That of this stamp, where it has one and its ten thousand numbers are all below 2^32.
+pub fn renewed(lead: Lead, stamp: u32) -> Lead
+    requires { ⌜ LeadGood lead ⌝ }
+    ensures { λ r. ⌜ LeadGood r ⌝ }
 {
-    if lead.number == number {
+    if stamp < 10000 {
         return lead;
     }
-    lead_of(number)
+    if 4294960000 <= stamp {
+        return lead;
+    }
+    lead_of(stamp / 10000)
 }
 
-// The two digits of a number below 100 as bytes of one number, the first in the lower: 48 + x / 10 and 256 times 48 + x % 10.
-fn pair(x: u32) -> u32
-    requires { ⌜ x < 100 ⌝ }
-    ensures { λ r. ⌜ r ≡ 12336 + x / 10 + 256 * (x % 10) ⌝ }
+pub fn last_four(rest: u32, pairs: &[u8; 200]) -> [u8; 4]
+    requires { ⌜ (rest < 10000) × PairsGood (now pairs) ⌝ }
+    ensures { λ r. ⌜ r ≡ lastFour rest ⌝ }
 {
-    12336 + 256 * x - 2559 * (x / 10)
-}
-
-fn byte(x: u32) -> u8
-    ensures { λ r. ⌜ r ≡ x % 256 ⌝ }
-{
-    (x % 256) as u8
-}
-
-pub fn last_four(stamp: u32) -> [u8; 4]
-    ensures { λ r. ⌜ r ≡ lastFour stamp ⌝ }
-{
-    let rest = stamp % 10000;
-    let four = pair(rest / 100) + 65536 * pair(rest % 100);
-    [
-        byte(four),
-        byte(four / 256),
-        byte(four / 65536),
-        byte(four / 16777216),
-    ]
+    let high = (rest / 100 * 2) as usize;
+    let low = (rest % 100 * 2) as usize;
+    [pairs[high], pairs[high + 1], pairs[low], pairs[low + 1]]
 }

@@ -1,89 +1,51 @@
 // What stands behind the stamp in the line of the commonest commands, straight from the pins.
 ghost use mathlib.Core.Path.{_≡_};
-ghost use Prim.Native.Nat.{_+_, _/_, _%_, _<_};
-ghost use Rattle.rules.specs.Pins as paper;
-ghost use Rattle.rules.specs.Entries as entries;
-ghost use Rattle.lines.specs.Quick.{nameAt, sizeAt, markAt, quickOn, TailGood};
+ghost use Prim.Native.Nat.{_+_, _*_, _/_, _%_, _<_};
+ghost use lib.ListN.{getD};
+ghost use Rattle.rules.specs.Commands.{code};
+ghost use Rattle.rules.specs.Pins.{kindAt};
+ghost use Rattle.lines.specs.Quick.{tailAt, TailGood};
+ghost use Rattle.lines.specs.Runs.{commandOn};
 
-// A blank and the name's letters, how many of these bytes stand, and the bank's digit or the dash. None stand where the pins are of another command, or of none.
-pub struct Tail(pub [u8; 4], pub usize, pub u8);
-
-fn bank_digit(pins: u32) -> u8
+pub fn bank_digit(pins: u32) -> u8
     ensures { λ r. ⌜ r ≡ 48 + pins / 128 % 8 ⌝ }
 {
     48 + (pins / 128 % 8) as u8
 }
 
-// With auto-precharge the name has an A.
-fn ap_size(pins: u32) -> usize
-    ensures { λ r. ⌜ r ≡ 3 + pins / 1024 % 2 ⌝ }
+// No byte stands. NOP too is left to the general way.
+const NONE: [u8; 8] = *b"\x00       ";
+
+// Twice the kind's number, and one more with auto-precharge.
+fn key_on(pins: u32) -> u32
+    ensures { λ r. ⌜ r ≡ 2 * code (kindAt (pins % 1024)) + pins / 1024 % 2 ⌝ }
 {
-    3 + (pins / 1024 % 2) as usize
+    2 * (pins::kind_of(pins) as u32) + pins / 1024 % 2
 }
 
-// By the levels of CA0r to CA2r; an arm for each of them, and names of one size, make a table of it. 0 and 4 are not asked for.
-fn name_at(levels: u32) -> [u8; 4]
-    ensures { λ r. ⌜ r ≡ nameAt levels ⌝ }
+// The end of a line, with 0 for the bank, and before all of it how many bytes it has. An arm for each key, and texts of one size, make a table of it.
+fn tail_at(key: u32) -> [u8; 8]
+    ensures { λ r. ⌜ r ≡ tailAt key ⌝ }
 {
-    match levels {
-        0 => *b" NOP",
-        1 => *b" WRA",
-        2 => *b" ACT",
-        3 => *b" PRE",
-        4 => *b" NOP",
-        5 => *b" RDA",
-        6 => *b" ACT",
-        _ => *b" NOP",
+    match key {
+        10 => *b"\x07 ACT 0\n",
+        11 => *b"\x07 ACT 0\n",
+        12 => *b"\x06  RD 0\n",
+        13 => *b"\x07 RDA 0\n",
+        14 => *b"\x06  WR 0\n",
+        15 => *b"\x07 WRA 0\n",
+        16 => *b"\x07 PRE 0\n",
+        17 => *b"\x07 PRE 0\n",
+        _ => NONE,
     }
 }
 
-// RD and WR have an A only with auto-precharge.
-fn size_at(levels: u32, pins: u32) -> usize
-    ensures { λ r. ⌜ r ≡ sizeAt levels pins ⌝ }
-{
-    if levels % 4 == 1 {
-        return ap_size(pins);
-    }
-    4
-}
-
-fn mark_at(levels: u32, pins: u32) -> u8
-    ensures { λ r. ⌜ r ≡ markAt levels pins ⌝ }
-{
-    if levels == 7 {
-        return 45;
-    }
-    bank_digit(pins)
-}
-
-// Not those that begin MRW, MRR, REFpb or REFab, nor the reserved ones and PRE-all.
-fn is_quick(pins: u32) -> bool
-    ensures { λ r. ⌜ r ≡ quickOn pins ⌝ }
-{
-    let first = pins % 4;
-    if first == 0 {
-        return false;
-    }
-    if first == 3 {
-        return (pins % 8 == 7) | (pins % 32 == 11);
-    }
-    true
-}
-
-// With clock enable high and CS_n low. NOP by CS_n is left to the general way: a test for it would cost each line.
-pub fn tail_on(pins: u32) -> Tail
-    ensures { λ r. ⌜ (0 < r .1 → TailGood (entries.commandOf (paper.decode pins)) (r .0) (r .1) (r .2)) ⌝ }
+// With clock enable high and CS_n low. None where it is another command, or none.
+pub fn tail_on(pins: u32) -> [u8; 8]
+    ensures { λ r. ⌜ (0 < getD r 0 0 → TailGood (commandOn pins) r (48 + pins / 128 % 8)) ⌝ }
 {
     if pins / 1048576 != 2 {
-        return Tail(*b"    ", 0, 0);
+        return NONE;
     }
-    if !is_quick(pins) {
-        return Tail(*b"    ", 0, 0);
-    }
-    let levels = pins % 8;
-    Tail(
-        name_at(levels),
-        size_at(levels, pins),
-        mark_at(levels, pins),
-    )
+    tail_at(key_on(pins))
 }

@@ -22,7 +22,8 @@ fn put_owed(out: &mut [u8], at: usize, owed: u8) -> usize
     put_next(out, at, (owed - 8) as u64)
 }
 
-// The line of a file that is accepted, as entry_line writes one of an entry; `owed` is the ledger with 8 added.
+// The line of a file that is accepted, at the start of `out`, and how many bytes it has; `owed` is the ledger with 8 added. Where `out` has under 64 bytes of room
+// nothing is written and the answer is 0.
 pub fn accepted_line(out: &mut [u8], commands: u64, refreshes: u64, owed: u8) -> usize
     ensures { λ r. ⌜ Written (verdictLine (accepted commands refreshes (subℕ owed 8))) (now (out .entry)) (now (out .exit)) r ⌝ }
 {

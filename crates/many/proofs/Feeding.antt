@@ -6,11 +6,11 @@ use mathlib.Core.Bool.{true}
 use mathlib.Core.List.{List}
 use lib.ListN.{length, take, length-drop}
 use lib.Seq.{length-take-le}
-use Rattle.judge.specs.declared.State.{State}
-use Rattle.judge.specs.declared.Fed.{Fed}
-use Rattle.judge.specs.declared.What.the-variants.{More, Full}
-use Rattle.judge.specs.Heard.{Heard, behind, heardOf, FedAs}
-use Rattle.judge.proofs.Walks.{Walk, stops-full, stops-more, stops-over, takes, walk}
+use Rattle.chunks.specs.declared.State.{State}
+use Rattle.chunks.specs.declared.Fed.{Fed}
+use Rattle.chunks.specs.declared.What.the-variants.{More, Full}
+use Rattle.chunks.specs.Heard.{Heard, behind, heardOf, FedAs}
+use Rattle.chunks.proofs.Walks.{Walk, stops-full, stops-more, stops-over, takes, walk}
 use Rattle.judge.proofs.Progress.{used-fits, left-short}
 
 -- it never asks for room

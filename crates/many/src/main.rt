@@ -5,7 +5,7 @@ mod traces;
 
 ghost use Prim.Native.Nat.{_+_, _≤_};
 ghost use lib.ListN.{length};
-use judge::Verdict;
+use chunks::Verdict;
 use libc::STDOUT_FILENO;
 use traces::Next;
 
@@ -31,7 +31,7 @@ fn tell(out: &mut [u8], wrote: usize, verdict: Verdict) -> Batch
     requires { ⌜ wrote + 64 ≤ length (now out) ⌝ }
     ensures { λ r. ⌜ r .wrote + 64 ≤ length (now (out .exit)) ⌝ }
 {
-    let end = wrote + judge::verdict_line(&mut out[wrote..], verdict);
+    let end = wrote + chunks::verdict_line(&mut out[wrote..], verdict);
     if end <= out.len() - 64 {
         return Batch {
             going: true,

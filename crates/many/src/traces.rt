@@ -4,9 +4,9 @@ ghost use mathlib.Core.Path.{_≡_};
 ghost use lib.ListN.{length};
 use crate::input;
 use crate::input::Length;
-use judge::State;
-use judge::Verdict;
-use judge::What;
+use chunks::State;
+use chunks::Verdict;
+use chunks::What;
 
 // The next trace's verdict; none where the input ends.
 pub enum Next {
@@ -79,7 +79,7 @@ fn judge_some(state: State, buf: &mut [u8], have: usize, left: usize) -> Half
     ensures { λ r. ⌜ (r .have < length (now (buf .exit))) × (r .left ≡ left) ⌝ }
 {
     let mut nothing: [u8; 0] = [0; 0];
-    let fed = judge::feed(state, &buf[..have], &mut nothing, true);
+    let fed = chunks::feed(state, &buf[..have], &mut nothing, true);
     let what = fed.what;
     let next = fed.state;
     let rest = shift(buf, fed.used, have);
@@ -119,15 +119,15 @@ fn verdict_of(at: Half, buf: &[u8]) -> Verdict
     let have = at.have;
     match what {
         What::Over(verdict) => verdict,
-        What::More => judge::finish(state, &buf[..have]),
-        What::Full => judge::finish(state, &buf[..have]),
+        What::More => chunks::finish(state, &buf[..have]),
+        What::Full => chunks::finish(state, &buf[..have]),
     }
 }
 
 fn judge_one(buf: &mut [u8], size: usize) -> Next
     requires { ⌜ 10 ≤ length (now buf) ⌝ }
 {
-    let mut at = gone_on(What::More, judge::start(), 0, size);
+    let mut at = gone_on(What::More, chunks::start(), 0, size);
     while at.left > 0 {
         at = turn(at, buf);
     }

@@ -1,16 +1,19 @@
--- An entry of the table of kinds, and what pins of a kind are.
-use Prim.Native.Nat.{ℕ, zero, suc, _+_, _/_, _%_, _<_}
-use mathlib.Core.Path.{_≡_, refl, sym, ap, _∙_}
+-- The kinds by their numbers: in the table, packed, and as what pins are.
+use Prim.Native.Nat.{ℕ, zero, suc, _+_, _*_, _/_, _%_, _^_, _<_}
+use mathlib.Core.Path.{_≡_, refl}
+use mathlib.Core.Bool.{Bool, true}
 use native.Mathlib.Nat.{add-zero, add-suc, suc-add, zero-add, div-one}
 use native.Mathlib.Omega.{arith}
 use lib.Dec.{eqb}
 use lib.ListN.{getD}
-use borrow.Author.Tests.{eq-eqb, ne-eqb}
+use borrow.Author.Tests.{eq-eqb, ne-eqb, eqb-true}
 use Rattle.rules.specs.Bits.{bits, on}
 use Rattle.rules.specs.Commands.{Kind, NOP, MRW, MRR, REFPB, REFAB, ACT, RD, WR, PRE, PREA, RESERVED, code}
-use Rattle.rules.specs.Pins.{byLevels, kindAt, ofKind, decode}
-use Rattle.pins.specs.Table.{codesFrom, kindCodes, kindWith}
+use Rattle.rules.specs.Pins.{byLevels, kindAt, codesFrom, kindCodes, ofKind, decode}
+use Rattle.rules.proofs.Onward.{onward, at-each}
+use Rattle.pins.specs.Table.{kindWith}
 
+-- ---- each of the 1,024 entries is the number of its pattern's kind
 codes-from : (n e k : ℕ) → k < n → getD (codesFrom n e) k 0 ≡ code (kindAt (e + k))
 unfolding codesFrom
 codes-from zero e k h = absurd (omega arith)
@@ -31,11 +34,16 @@ low-levels x =
     let l = low-bit x in
     λ i. byLevels (eqb (l .0 i) 1) (eqb (l .1 i) 1) (eqb (l .2 i) 1) (eqb (l .3 i) 1) (eqb (l .4 i) 1)
 
-pub low-code : (p : ℕ) → getD (codesFrom 32 0) (p % 32) 0 ≡ code (kindAt (p % 1024))
-low-code p =
-    let same : p % 1024 % 32 ≡ p % 32 = omega arith in
-    (rw zero-add at (codes-from 32 0 (p % 32) (omega arith))) ∙ sym (ap code (low-levels (p % 1024) ∙ ap kindAt same))
+-- sixteen numbers of kinds, four bits each, for the patterns from e on
+abbrev agrees : (kinds e k : ℕ) → Bool
+agrees kinds e k = eqb (kinds / 2 ^ (k * 4) % 16) (code (kindAt (k + e)))
 
+pub packed : (kinds e : ℕ) → onward (agrees kinds e) 0 16 ≡ true → (p : ℕ) → p % 32 ≡ p % 16 + e → kinds / 2 ^ (p % 16 * 4) % 16 ≡ code (kindAt (p % 1024))
+packed kinds e all p s =
+    let same : p % 1024 % 32 ≡ p % 16 + e = omega arith in
+    rw (low-levels (p % 1024), same) (eqb-true _ _ (at-each (agrees kinds e) 0 16 all (p % 16) (omega arith) (omega arith)))
+
+-- ---- what pins of a kind are
 kind-back : (k : Kind) → kindWith (code k) ≡ k
 unfolding code kindWith
 kind-back NOP = refl
@@ -51,6 +59,10 @@ kind-back PREA = refl
 kind-back RESERVED = refl
 
 -- with clock enable high, CS_n low and nothing above
-pub by-kind : (p : ℕ) → p / 2097152 ≡ 1 → (p / 1048576 % 2 ≡ 1 → ⊥) → decode p ≡ ofKind (kindWith (code (kindAt (p % 1024)))) p
-unfolding decode on bits
-by-kind p e n = rw (eq-eqb _ _ e, ne-eqb _ _ n, kind-back (kindAt (p % 1024)), div-one p)
+module _ (p : ℕ) (cke : p / 2097152 ≡ 1) (cs : p / 1048576 % 2 ≡ 1 → ⊥) where
+  pub by-edge : decode p ≡ ofKind (kindAt (p % 1024)) p
+  unfolding decode on bits
+  by-edge = rw (eq-eqb _ _ cke, ne-eqb _ _ cs, div-one p)
+
+  pub by-kind : decode p ≡ ofKind (kindWith (code (kindAt (p % 1024)))) p
+  by-kind = rw (kind-back (kindAt (p % 1024))) by-edge

@@ -1,7 +1,10 @@
 -- Laws of the pins' code, each after what it stands on.
 pub mod Codes
 pub mod Places
+pub mod Fronts
 pub mod Written
+pub mod Unlisted
+pub mod Rounds
 pub mod Values
-pub mod Trips
 pub mod Promises
+pub mod Trips

@@ -25,11 +25,10 @@ use Rattle.rules.specs.Pins.{
   writable,
   encode,
 }
-use Rattle.rules.specs.Writer.{bigEndian, fieldBytes, entryBytes}
 use Rattle.pins.specs.declared.writer.Parts.{Parts}
 use Rattle.pins.specs.declared.Command.{Command}
 use Rattle.pins.specs.declared.Command.the-variants.{Nop, Mrw, Mrr, Refpb, Refab, Act, Rd, Wr, Pre, Prea}
-use Rattle.pins.specs.Places.{maOn, opOn, bankOn, rowOn, columnOn, apOn, maPins, opPins, bankPins, rowPins, columnPins, apPin, partsOf, fitsOf, joinedOf, entryOf}
+use Rattle.pins.specs.Places.{maOn, opOn, bankOn, rowOn, columnOn, apOn, maPins, opPins, bankPins, rowPins, columnPins, apPin, partsOf, fitsOf, joinedOf}
 use Rattle.pins.specs.Values.{commandOf}
 
 -- reading
@@ -73,7 +72,3 @@ parts-are Prea = (refl, refl, omega arith)
 pub fits-when : (x : Parts) → x .bank ≤ 7 → x .row ≤ 32767 → x .column ≤ 4095 → x .column % 2 ≡ 0
     → fitsOf x ≡ (not (eqb (x .fixed) 0x20_0000) || listedMA (x .ma))
 fits-when x b r c e = rw (le-leb _ _ b, le-leb _ _ r, le-leb _ _ c, eq-eqb _ _ e)
-
-pub entry-is : (stamp pins : ℕ) → entryOf stamp pins ≡ entryBytes stamp pins
-unfolding bigEndian fieldBytes entryBytes
-entry-is stamp pins = rw (div-one stamp, div-one pins)

@@ -1,11 +1,13 @@
--- The code's values are told apart by the values of the rules that they are read as.
+-- The code's values are told apart by the values of the rules that they are read as, and what is decoded by the number of its refusal.
+use Prim.Native.Nat.{ℕ}
 use mathlib.Core.Path.{_≡_, refl, ap}
 use mathlib.Core.Bool.{cond}
 use mathlib.Core.Option.{Option, none, some}
 use lib.Dec.{eqb}
 use Rattle.rules.specs.Commands as rules
 use Rattle.rules.specs.Pins as pins
-use Rattle.rules.specs.Checks.{Refusal, refusal}
+use Rattle.rules.specs.Folds.{orElse, firstOf}
+use Rattle.rules.specs.Checks.{Refusal, refusal, unless, isWrong, isReserved}
 use Rattle.rules.proofs.Determined.{tells}
 use Rattle.pins.specs.declared.Command.{Command}
 use Rattle.pins.specs.declared.Command.the-variants.{Nop, Mrw, Mrr, Refpb, Refab, Act, Rd, Wr, Pre, Prea}
@@ -13,7 +15,7 @@ use Rattle.pins.specs.declared.Decoded.{Decoded}
 use Rattle.pins.specs.declared.Decoded.the-variants.{Good, WrongBits, Reserved}
 use Rattle.pins.specs.declared.Wrote.{Wrote}
 use Rattle.pins.specs.declared.Wrote.the-variants.{Done, Unfit, NoRoom}
-use Rattle.pins.specs.Values.{commandOf, decodedOf, refusalOf}
+use Rattle.pins.specs.Values.{commandOf, decodedOf, pinsRefusal, DecodedAs, refusalOf}
 
 -- the code's values, back from those of the rules
 abbrev command : rules.Command → Command
@@ -70,3 +72,9 @@ one-decoded = tells decodedOf decoded decoded-back
 
 pub one-wrote : {z : Option Refusal} (x y : Wrote) → refusalOf x ≡ z → refusalOf y ≡ z → x ≡ y
 one-wrote = tells refusalOf wrote wrote-back
+
+pub decoded-as : (p : ℕ) (d : Decoded) → decodedOf d ≡ pins.decode p → DecodedAs p d
+unfolding decodedOf pinsRefusal firstOf orElse unless isWrong isReserved
+decoded-as p (Good c) e = record { is = e; told = rw (← e) }
+decoded-as p WrongBits e = record { is = e; told = rw (← e) }
+decoded-as p Reserved e = record { is = e; told = rw (← e) }

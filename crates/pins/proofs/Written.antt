@@ -1,6 +1,6 @@
 -- The three outcomes of the writer, each from what its tests told.
 use Prim.Native.Nat.{ℕ, _≤_, _<_}
-use mathlib.Core.Path.{_≡_, ap, _∙_}
+use mathlib.Core.Path.{_≡_, _∙_}
 use mathlib.Core.Bool.{true, false}
 use mathlib.Core.List.{List, _++_}
 use borrow.Author.Tests.{le-leb, lt-leb}
@@ -12,9 +12,7 @@ use Rattle.rules.specs.Writer.{bigEndian, fieldBytes, entryBytes, writeRefusal,
 use Rattle.pins.specs.declared.Command.{Command}
 use Rattle.pins.specs.declared.Wrote.{Wrote}
 use Rattle.pins.specs.declared.Wrote.the-variants.{Done, Unfit, NoRoom}
-use Rattle.pins.specs.Places.{entryOf}
 use Rattle.pins.specs.Values.{commandOf, refusalOf}
-use Rattle.pins.proofs.Places.{entry-is}
 
 module _ (stamp : ℕ) (c : Command) (buffer : List ℕ) where
   -- the writer's promise
@@ -29,8 +27,8 @@ module _ (stamp : ℕ) (c : Command) (buffer : List ℕ) where
   unfolding refusalOf writeRefusal written bufferWith unless firstOf orElse
   no-room w h = let l = lt-leb 10 (length buffer) h in (rw (w, l), rw (w, l))
 
-  pub done : (after : List ℕ) → writable (commandOf c) ≡ true → 10 ≤ length buffer → after ≡ entryOf stamp (encode (commandOf c)) ++ drop 10 buffer → Writes Done after
+  pub done : (after : List ℕ) → writable (commandOf c) ≡ true → 10 ≤ length buffer → after ≡ entryBytes stamp (encode (commandOf c)) ++ drop 10 buffer → Writes Done after
   unfolding refusalOf writeRefusal written bufferWith unless firstOf orElse entryBytes fieldBytes bigEndian
   done after w h e =
       let l = le-leb 10 (length buffer) h in
-      (rw (w, l), e ∙ rw (w, l) (ap (λ (f : List ℕ). f ++ drop 10 buffer) (entry-is stamp (encode (commandOf c)))))
+      (rw (w, l), e ∙ rw (w, l))

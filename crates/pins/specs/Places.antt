@@ -1,7 +1,6 @@
--- The places of numbers on the pins, and the bytes of an entry, in the words of the code. proofs/Places.antt holds them against the rules.
+-- The places of numbers on the pins, in the words of the code. proofs/Places.antt holds them against the rules.
 use Prim.Native.Nat.{ℕ, _+_, _*_, _/_, _%_}
 use mathlib.Core.Bool.{Bool, false, cond, not, _&&_, _||_}
-use mathlib.Core.List.{List, [], _∷_}
 use lib.Dec.{leb, eqb}
 use Rattle.rules.specs.Pins.{listedMA}
 use Rattle.pins.specs.declared.writer.Parts.{Parts}
@@ -74,7 +73,3 @@ fitsOf x =
 
 abbrev pub joinedOf : Parts → ℕ
 joinedOf x = x .fixed + maPins (x .ma) + opPins (x .op) + bankPins (x .bank) + rowPins (x .row) + columnPins (x .column) + apPin (x .ap)
-
-abbrev pub entryOf : (stamp pins : ℕ) → List ℕ
-entryOf s p =
-    32 ∷ 0 ∷ 7 ∷ s / 16777216 % 256 ∷ s / 65536 % 256 ∷ s / 256 % 256 ∷ s % 256 ∷ p / 65536 % 256 ∷ p / 256 % 256 ∷ p % 256 ∷ []

@@ -1,9 +1,15 @@
-// The commands on the pins: decoding, the table of kinds, and the writer.
+// The commands on the pins: decoding, the table of kinds, and the writer; the fields that hold them; the round counter.
+mod counter;
+mod fields;
 mod reader;
 mod table;
 mod writer;
 
+pub use counter::counter_after;
+pub use fields::entry_at;
+pub use fields::stamp_at;
 pub use reader::decode;
+pub use table::kind_of;
 pub use table::kinds;
 pub use writer::write_entry;
 
@@ -33,4 +39,11 @@ pub enum Wrote {
     Done,
     Unfit,
     NoRoom,
+}
+
+// The entry field at a place of some bytes: whether one stands there whole, and its numbers; 0 where none does.
+pub struct Front {
+    pub whole: bool,
+    pub stamp: u32,
+    pub pins: u32,
 }

@@ -5,7 +5,7 @@ ghost use Rattle.rules.specs.Commands.{MRW};
 ghost use Rattle.rules.specs.Pins.{ofKind, listedMA};
 ghost use Rattle.pins.specs.Places.{maOn, opOn, bankOn, rowOn, columnOn, apOn};
 ghost use Rattle.pins.specs.Table.{kindWith};
-ghost use Rattle.pins.specs.Values.{decodedOf};
+ghost use Rattle.pins.specs.Values.{decodedOf, DecodedAs};
 use crate::Command;
 use crate::Decoded;
 use crate::table;
@@ -118,7 +118,7 @@ fn of_kind(kind: u8, pins: u32) -> Decoded
 
 // What these pins are. A bit above 21 makes them wrong.
 pub fn decode(pins: u32) -> Decoded
-    ensures { λ r. ⌜ decodedOf r ≡ Rattle.rules.specs.Pins.decode pins ⌝ }
+    ensures { λ r. ⌜ DecodedAs pins r ⌝ }
 {
     if pins / 2097152 != 1 {
         return Decoded::WrongBits;
@@ -126,5 +126,5 @@ pub fn decode(pins: u32) -> Decoded
     if pins / 1048576 % 2 == 1 {
         return Decoded::Good(Command::Nop);
     }
-    of_kind(table::kind_at(pins), pins)
+    of_kind(table::kind_of(pins), pins)
 }

@@ -1,9 +1,8 @@
 // The kind of every rising-edge pattern CA0r to CA9r with CS_n low, by its number: for loading into the controller, and for decoding.
 ghost use mathlib.Core.Path.{_≡_};
-ghost use Prim.Native.Nat.{_%_};
+ghost use Prim.Native.Nat.{_*_, _/_, _%_, _^_};
 ghost use Rattle.rules.specs.Commands.{code};
-ghost use Rattle.rules.specs.Pins.{kindAt};
-ghost use Rattle.pins.specs.Table.{kindCodes};
+ghost use Rattle.rules.specs.Pins.{kindAt, kindCodes};
 
 const KINDS: [u8; 1024] = [
     1, // MRW
@@ -1039,45 +1038,24 @@ pub fn kinds() -> [u8; 1024]
     KINDS
 }
 
-// The same by CA0r to CA4r alone, which decide it: a small array costs little where it is read.
-const BY_FIVE: [u8; 32] = [
-    1,
-    7,
-    5,
-    10,
-    3,
-    6,
-    5,
-    0,
-    2,
-    7,
-    5,
-    8,
-    4,
-    6,
-    5,
-    0,
-    1,
-    7,
-    5,
-    10,
-    3,
-    6,
-    5,
-    0,
-    2,
-    7,
-    5,
-    9,
-    4,
-    6,
-    5,
-    0,
-];
+// The same by CA0r to CA3r, four bits a pattern from the lowest on, with CA4r low and with CA4r high: no higher level decides.
+const LOW: u64 = 0x0564_8572_0563_a571;
+
+const HIGH: u64 = 0x0564_9572_0563_a571;
+
+// An array would be copied at each call.
+fn kind_in(kinds: u64, pins: u32) -> u8
+    ensures { λ r. ⌜ r ≡ kinds / 2 ^ (pins % 16 * 4) % 16 ⌝ }
+{
+    ((kinds >> (pins % 16 * 4)) % 16) as u8
+}
 
 // The kind of the pattern on the rising edge of these pins.
-pub fn kind_at(pins: u32) -> u8
+pub fn kind_of(pins: u32) -> u8
     ensures { λ r. ⌜ r ≡ code (kindAt (pins % 1024)) ⌝ }
 {
-    BY_FIVE[(pins % 32) as usize]
+    if pins / 16 % 2 == 1 {
+        return kind_in(HIGH, pins);
+    }
+    kind_in(LOW, pins)
 }

@@ -1,14 +1,14 @@
 // Writing a command as an entry field.
 ghost use mathlib.Core.Path.{_≡_};
-ghost use mathlib.Core.List.{_++_};
 ghost use Prim.Native.Nat.{_≤_};
-ghost use lib.ListN.{length, drop};
+ghost use lib.ListN.{length};
 ghost use Rattle.rules.specs.Pins.{writable, encode};
 ghost use Rattle.rules.specs.Writer.{writeRefusal, written};
-ghost use Rattle.pins.specs.Places.{maPins, opPins, bankPins, rowPins, columnPins, apPin, registerParts, bankParts, partsOf, fitsOf, joinedOf, entryOf};
+ghost use Rattle.pins.specs.Places.{maPins, opPins, bankPins, rowPins, columnPins, apPin, registerParts, bankParts, partsOf, fitsOf, joinedOf};
 ghost use Rattle.pins.specs.Values.{commandOf, refusalOf};
 use crate::Command;
 use crate::Wrote;
+use crate::fields;
 use crate::reader;
 
 // What a command puts on the pins: those that are the same for its whole kind (clock enable, CS_n, the levels from CA0r on), and its numbers, 0 where it
@@ -154,34 +154,6 @@ fn pins_of(command: Command) -> u32
     joined(parts_of(command))
 }
 
-fn entry_of(stamp: u32, pins: u32) -> [u8; 10]
-    ensures { λ r. ⌜ r ≡ entryOf stamp pins ⌝ }
-{
-    [
-        32,
-        0,
-        7,
-        (stamp / 16777216 % 256) as u8,
-        (stamp / 65536 % 256) as u8,
-        (stamp / 256 % 256) as u8,
-        (stamp % 256) as u8,
-        (pins / 65536 % 256) as u8,
-        (pins / 256 % 256) as u8,
-        (pins % 256) as u8,
-    ]
-}
-
-fn put(field: [u8; 10], buffer: &mut [u8])
-    requires { ⌜ 10 ≤ length (now buffer) ⌝ }
-    ensures { λ _. ⌜ now (buffer .exit) ≡ field ++ drop 10 (now (buffer .entry)) ⌝ }
-{
-    let mut i = 0;
-    while i < 10 {
-        buffer[i] = field[i];
-        i += 1;
-    }
-}
-
 // The entry field at the start of the buffer, or a refusal that leaves the buffer as it is.
 pub fn write_entry(stamp: u32, command: Command, buffer: &mut [u8]) -> Wrote
     ensures answer { λ r. ⌜ refusalOf r ≡ writeRefusal (commandOf command) (length (now (buffer .entry))) ⌝ }
@@ -195,6 +167,6 @@ pub fn write_entry(stamp: u32, command: Command, buffer: &mut [u8]) -> Wrote
     if buffer.len() < 10 {
         return Wrote::NoRoom;
     }
-    put(entry_of(stamp, pins_of(command)), buffer);
+    fields::put_entry(buffer, stamp, pins_of(command));
     Wrote::Done
 }

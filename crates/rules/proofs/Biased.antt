@@ -24,10 +24,10 @@ owed k I cs zero = k
 owed k I cs (suc t) = owed k I cs t + due I t - cond (isOneOf cs t) 1 0
 
 -- ---- o less k, and one more or less
-sub-below : (o k : ℕ) → o < k → subℕ o k ≡ negsuc (k - suc o)
+pub sub-below : (o k : ℕ) → o < k → subℕ o k ≡ negsuc (k - suc o)
 sub-below o k h = rw (lt-ltb o k h)
 
-sub-from : (o k : ℕ) → k ≤ o → subℕ o k ≡ pos (o - k)
+pub sub-from : (o k : ℕ) → k ≤ o → subℕ o k ≡ pos (o - k)
 sub-from o k h = rw (le-ltb o k h)
 
 sub-suc : (o k : ℕ) → sucℤ (subℕ o k) ≡ subℕ (suc o) k

@@ -56,6 +56,11 @@ unfolding orElse
 or-none none = refl
 or-none (some a) = refl
 
+pub unless-none : (b : Bool) (k : ℕ) → unless b k ≡ none → b ≡ true
+unfolding unless
+unless-none true k e = refl
+unless-none false k e = absurd (some-none (sym e))
+
 pub named-none : (k : ℕ) (o : Option (ℕ × ℕ)) → named k o ≡ none → o ≡ none
 unfolding named
 named-none k none e = refl

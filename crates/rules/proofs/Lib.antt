@@ -35,4 +35,5 @@ pub mod Stored
 pub mod Ledgers
 pub mod StepByList
 pub mod Steps
+pub mod Sound
 pub mod Determined

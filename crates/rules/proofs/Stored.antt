@@ -58,6 +58,12 @@ module _ {A : Type 0} (p : A → Bool) where
   all-take (suc n) [] h = refl
   all-take (suc n) (x ∷ l) h = let b = both-true (p x) (all p l) h in all-cons x (take n l) (b .0) (all-take n l (b .1))
 
+-- where one test passes, so does another
+pub all-on : {A : Type 0} (p q : A → Bool) → ((x : A) → p x ≡ true → q x ≡ true) → (l : List A) → all p l ≡ true → all q l ≡ true
+unfolding all
+all-on p q h [] e = refl
+all-on p q h (x ∷ l) e = let b = both-true (p x) (all p l) e in all-cons q x l (h x (b .0)) (all-on p q h l (b .1))
+
 -- the list of questions has every one of them
 pub asks-all : (a : Ask) → (k : ℕ) × (getElem? asks k ≡ some a)
 unfolding asks
@@ -82,6 +88,11 @@ pub stored-of : (p : Ask → Found ℕ → Bool) (h : History) → ((q : Questio
 unfolding allStored
 stored-of p h g = all-of _ (λ a. all-of _ (λ b. g (record { ask = a; bank = b })) banks) asks
 
+pub stored-on : (p p′ : Ask → Found ℕ → Bool) (h h′ : History) → ((q : Question) → all (p (q .ask)) (h q) ≡ true → all (p′ (q .ask)) (h′ q) ≡ true) →
+    allStored p h ≡ true → allStored p′ h′ ≡ true
+unfolding allStored
+stored-on p p′ h h′ g = all-on _ _ (λ a. all-on _ _ (λ b. g (record { ask = a; bank = b })) banks) asks
+
 -- an entry more
 module _ (p : Found ℕ → Bool) where
   all-remembered : (m : Meaning) (c : Command) (f : Found ℕ) (h : List (Found ℕ)) → p f ≡ true → all p h ≡ true → all p (remembered m c f h) ≡ true
@@ -92,7 +103,7 @@ module _ (p : Found ℕ → Bool) where
       go true = all-cons p f (take (m .passed) h) pf (all-take p (m .passed) h ph)
       go false = unfold all in refl
 
-  all-after : (c : Command) (n t mr2 : ℕ) (h : History) (q : Question) → p (record { stamp = t; noted = cond (means (q .ask) .lags) mr2 0 }) ≡ true →
+  pub all-after : (c : Command) (n t mr2 : ℕ) (h : History) (q : Question) → p (record { stamp = t; noted = cond (means (q .ask) .lags) mr2 0 }) ≡ true →
       all p (h q) ≡ true → all p (historyAfter c n t mr2 h q) ≡ true
   unfolding historyAfter
   all-after c n t mr2 h q pf ph = go (means (q .ask) .among (q .bank) c n)

@@ -50,7 +50,7 @@ passed card past e h =
       here = paid-iff lpddr3 (interval card) (countedStamps (taken card past e ∷ past)) (e .stamp) .1 (p .1 .1 .1 .1 .1 .1 .1 .0);
     }
 
-counter-step : (c : Command) (n : ℕ) → n ≤ 7 → counterAfter c n ≤ 7
+pub counter-step : (c : Command) (n : ℕ) → n ≤ 7 → counterAfter c n ≤ 7
 unfolding counterAfter
 counter-step c n h = go (is REFAB c) (is REFPB c)
   where
@@ -93,7 +93,7 @@ module _ (card : Card) where
   unfolding cardGood
   start-good good = second (periodGood (card .period)) _ _ _ _ good
 
-  write-good : (c : Command) (v : ℕ) → valueGood card c ≡ true → mr2Good (card .period) v ≡ true → mr2Good (card .period) (registerAfter 2 c v) ≡ true
+  pub write-good : (c : Command) (v : ℕ) → valueGood card c ≡ true → mr2Good (card .period) v ≡ true → mr2Good (card .period) (registerAfter 2 c v) ≡ true
   unfolding valueGood mayWrite registerAfter
   write-good c v h g = go (is MRW c) (eqb (carries c .ma) 2) refl h
     where

@@ -1,7 +1,7 @@
 -- Answers, and what follows from their being refusals or none.
 use Prim.Native.Nat.{ℕ}
 use mathlib.Core.Path.{_≡_, refl, ap, sym, _∙_}
-use mathlib.Core.Bool.{true, false}
+use mathlib.Core.Bool.{Bool, true, false}
 use mathlib.Core.List.{[], _∷_}
 use mathlib.Core.Option.{Option, none, some}
 use native.Mathlib.Omega.{arith}
@@ -35,7 +35,7 @@ not-taken (TooSoon q t) o = refl
 apart : true ≡ false → ⊥
 apart e = let z : _≡_ {A = ℕ} 0 1 = cc in omega arith
 
-none-so : (o : Option Refusal) → isNone o ≡ true → o ≡ none
+pub none-so : (o : Option Refusal) → isNone o ≡ true → o ≡ none
 unfolding isNone
 none-so none e = refl
 none-so (some x) e = absurd (apart (sym e))
@@ -52,6 +52,10 @@ or-first first then e = go (refusalOf first) e
     go none e = absurd (apart e)
     go (some x) e = refl
 
+-- what a test says of what it tests
+pub by-test : {x y z : Bool} → x ≡ z → x ≡ y → y ≡ z
+by-test e f = sym f ∙ e
+
 module _ (rec : Record) (t : ℕ) (c : Command) (w : Ruling) where
   pub kept-so : isNone (refusalOf (w .answer)) ≡ false → Settled rec t c w (record { rec = rec; answer = w .answer })
   unfolding isNone
@@ -61,10 +65,10 @@ module _ (rec : Record) (t : ℕ) (c : Command) (w : Ruling) where
     changed = λ n. absurd (apart (sym (ap isNone n) ∙ e));
   }
 
-  pub changed-so : (s : Record) → Changed rec t c (w .ledger) s → isNone (refusalOf (w .answer)) ≡ true → Settled rec t c w (record { rec = s; answer = w .answer })
-  unfolding isNone
+  pub changed-so : (s : Record) → Changed rec t c (w .ledger) s → isNone (refusalOf (w .answer)) ≡ true → Settled rec t c w (record { rec = s; answer = Taken })
+  unfolding isNone refusalOf
   changed-so s h e = record {
-    told = refl;
+    told = sym (none-so (refusalOf (w .answer)) e);
     kept = λ x n. absurd (apart (sym e ∙ ap isNone n));
     changed = λ n. h;
   }

@@ -1,7 +1,21 @@
--- Laws of a step: its answers, the account's two 11, its parts, what it leaves, its promises, its runs.
+-- Laws of a step: its answers, the account's two 11, its parts, what it leaves; that it keeps a sound record sound. Of a run: entry by entry and part by part. Of the quick
+-- run: kinds, delay rules that do not speak; what the quick test clears is taken; its loop; it is a part of the run. The turns of a run. Promises; and runs of steps.
 pub mod Answers
-pub mod Cycles
+pub mod Elevens
 pub mod Split
 pub mod Leaves
+pub mod Arrays
+pub mod Kept
+pub mod Onward
+pub mod Levels
+pub mod Within
+pub mod Quiet
+pub mod Cleared
+pub mod Places
+pub mod Begun
+pub mod Went
+pub mod Ahead
+pub mod Joining
+pub mod Turning
 pub mod Promises
 pub mod Runs

@@ -1,4 +1,4 @@
--- The promise of each public function determines its answer and the record that it leaves.
+-- The promise of each public function determines its answer and the record that it leaves; and what those of `step` and `run` claim.
 use mathlib.Core.Path.{_≡_, refl, ap, sym, _∙_}
 use mathlib.Core.Bool.{cond}
 use mathlib.Core.Option.{Option, none, some}
@@ -6,8 +6,7 @@ use lib.Dec.{eqb}
 use Rattle.rules.specs.Entries.{Entry}
 use Rattle.rules.specs.Checks.{Refusal, refusal}
 use Rattle.rules.specs.Lent as lent
-use Rattle.rules.proofs.Determined.{tells, Promise, Determined, determined, fact-of}
-use Rattle.pins.proofs.Values.{one-command}
+use Rattle.rules.proofs.Determined.{tells, Promise, Plainly, Determined, determined, fact-of}
 use Rattle.ledger.specs.declared.Ledger.{Ledger}
 use Rattle.ledger.specs.Values as paid
 use Rattle.ledger.proofs.Promises.{code-is}
@@ -19,10 +18,8 @@ use Rattle.step.specs.declared.Answer.the-variants.{Taken, BadRecord, Ea
 use Rattle.step.specs.declared.Stepped.{Stepped}
 use Rattle.step.specs.Values.{refusalOf, Left}
 use Rattle.step.proofs.account.as_told as as-told
-use Rattle.step.proofs.account.counts as counts
-use Rattle.step.proofs.offering.offered as offered
 use Rattle.step.proofs.offering.step as step
-use Rattle.step.proofs.reading.command_of as command-of
+use Rattle.step.proofs.turns.run as run
 
 -- the case that has these numbers
 abbrev numbered : Refusal → Answer
@@ -64,17 +61,14 @@ one-stepped o rec e r s p q =
     let x : r .rec ≡ s .rec = p .is ∙ ap after g ∙ sym (q .is) in
     λ i. record { rec = x i; answer = a i }
 
-abbrev offered-says : Promise offered.ended
-offered-says w = offered.clauses (w .𝓤) (w .H) (w .𝓖 .A) (w .𝓜 .mem) (w .𝓡 .run)
-
-pub offered-determined : Determined offered.ended offered-says
-offered-determined = determined offered.ended offered-says (λ κs a r e. fact-of _) (λ κs a r r′ ws ws′ p p′. (one-stepped _ _ _ r r′ p p′, refl))
-
-abbrev step-says : Promise step.ended
+abbrev pub step-says : Promise step.ended
 step-says w = step.clauses (w .𝓤) (w .H) (w .𝓖 .A) (w .𝓜 .mem) (w .𝓡 .run)
 
+abbrev pub step-claims : Plainly step.ended step-says
+step-claims κs a r e = fact-of _
+
 pub step-determined : Determined step.ended step-says
-step-determined = determined step.ended step-says (λ κs a r e. fact-of _) (λ κs a r r′ ws ws′ p p′. (one-stepped _ _ _ r r′ p p′, refl))
+step-determined = determined step.ended step-says step-claims (λ κs a r r′ ws ws′ p p′. (one-stepped _ _ _ r r′ p p′, refl))
 
 abbrev as-told-says : Promise as-told.ended
 as-told-says w = as-told.clauses (w .𝓤) (w .H) (w .𝓖 .A) (w .𝓜 .mem) (w .𝓡 .run)
@@ -82,15 +76,11 @@ as-told-says w = as-told.clauses (w .𝓤) (w .H) (w .𝓖 .A) (w .𝓜 .mem) (w
 pub as-told-determined : Determined as-told.ended as-told-says
 as-told-determined = determined as-told.ended as-told-says (λ κs a r e. fact-of _) (λ κs a r r′ ws ws′ p p′. (one-answer r r′ p p′, refl))
 
-abbrev counts-says : Promise counts.ended
-counts-says w = counts.clauses (w .𝓤) (w .H) (w .𝓖 .A) (w .𝓜 .mem) (w .𝓡 .run)
+abbrev pub run-says : Promise run.ended
+run-says w = run.clauses (w .𝓤) (w .H) (w .𝓖 .A) (w .𝓜 .mem) (w .𝓡 .run)
 
-pub counts-determined : Determined counts.ended counts-says
-counts-determined = determined counts.ended counts-says (λ κs a r e. fact-of _) (λ κs a r r′ ws ws′ p p′. (p ∙ sym p′, refl))
+abbrev pub run-claims : Plainly run.ended run-says
+run-claims κs a r e = fact-of _
 
-abbrev command-of-says : Promise command-of.ended
-command-of-says w = command-of.clauses (w .𝓤) (w .H) (w .𝓖 .A) (w .𝓜 .mem) (w .𝓡 .run)
-
-pub command-of-determined : Determined command-of.ended command-of-says
-command-of-determined =
-    determined command-of.ended command-of-says (λ κs a r e. fact-of _) (λ κs a r r′ ws ws′ p p′. (one-command r r′ p p′, refl))
+pub run-determined : Determined run.ended run-says
+run-determined = determined run.ended run-says run-claims (λ κs a r r′ ws ws′ p p′. (p ∙ sym p′, refl))

@@ -1,13 +1,18 @@
 -- A run of steps over a list of entries, from a fresh record, goes through exactly when the rules hold, and judges each entry on the way as the list does. It is
--- said of any function that keeps the promise of `step`.
-use Prim.Native.Nat.{_≤_, _<_}
+-- said of any function that keeps the promise of `step`; and what keeps the promise of `run` is such steps. Both promises are read off the generated contracts.
+use Prim.Native.Nat.{ℕ, zero, suc, _≤_, _<_}
 use mathlib.Core.Path.{_≡_, refl, ap, sym, _∙_}
 use mathlib.Core.Logic.{_↔_, ⊎-elim}
-use mathlib.Core.Bool.{true, false}
+use mathlib.Core.Bool.{Bool, true, false, cond, _&&_}
 use mathlib.Core.List.{List, [], _∷_}
 use mathlib.Core.Option.{Option, none, some, Option·map, map-eq-some-iff}
 use native.Mathlib.Omega.{arith}
 use lib.Dec.{leb}
+use lib.ListN.{drop}
+use contract.Lifetimes.{Lfts}
+use denote.Ref.{now}
+use denote.Triple.Clauses.{AtExit, atExit}
+use denote.Triple.Entry.{Args}
 use borrow.Author.Tests.{le-ltb}
 use Rattle.rules.specs.Card as rules
 use Rattle.rules.specs.Ranges.{cardGood}
@@ -15,29 +20,45 @@ use Rattle.rules.specs.Past.{Past}
 use Rattle.rules.specs.Folds.{orElse, firstOf}
 use Rattle.rules.specs.Entries.{Entry, pastOf}
 use Rattle.rules.specs.Checks.{Refusal, refusal, unless, checks, above, entryChecks, entryRefusal}
-use Rattle.rules.specs.Lent.{Lent, lentGood, stepRefusal, lentAfter, lastCycle, standingLedger, standing, fresh, AllTaken}
+use Rattle.rules.specs.Lent.{Lent, commandIn, ledgerWith, stepRefusal, lentAfter, lastCycle, standingLedger, standing, fresh, AllTaken}
 use Rattle.rules.proofs.Tests.{le-cases}
-use Rattle.rules.proofs.Decided.{orElse-none}
 use Rattle.rules.proofs.Taken.{paid-to-last}
 use Rattle.rules.proofs.StepByList.{standsAt, step-by-list, step-below}
+use Rattle.rules.proofs.Sound.{step-passed}
 use Rattle.rules.proofs.Steps.{runSteps, AllEntries, entries-taken, runs-iff}
 use Rattle.card.specs.declared.Card.{Card}
 use Rattle.card.specs.Values.{cardOf}
-use Rattle.ledger.specs.Values.{unlessRefused}
+use Rattle.pins.specs.Fronts.{frontOf}
+use Rattle.ledger.specs.Values.{ledgerOf, codeOf, isNone, unlessRefused}
+use Rattle.ledger.proofs.Promises.{code-is}
 use Rattle.bank.specs.declared.Record.{Record}
 use Rattle.bank.specs.Values.{lentOf, freshOf}
+use Rattle.bank.specs.After.{recordAfter}
 use Rattle.bank.proofs.Beginning.{fresh-lent}
+use Rattle.step.specs.declared.Ran.{Ran}
 use Rattle.step.specs.declared.Stepped.{Stepped}
-use Rattle.step.specs.Values.{refusalOf, Left}
-use Rattle.step.proofs.Split.{unless-none}
+use Rattle.step.specs.Values.{refusalOf, recordWith}
+use Rattle.step.specs.Runs.{entryAt, takes, commandsBy, refreshesBy, ran, behind, runOf}
+use Rattle.step.proofs.Promises.{step-claims, run-claims}
+use Rattle.step.proofs.offering.step as step
+use Rattle.step.proofs.turns.run as public
 
 -- each entry in turn; none at the first refusal
 unfoldable pub run : (Record → Entry → Stepped) → Record → List Entry → Option Record
 run f r [] = some r
 run f r (e ∷ es) = elim (refusalOf (f r e .answer)) [ none ↦ run f (f r e .rec) es | some x ↦ none ]
 
+-- the entries at the start of some bytes, as `runOf` takes them, each by a step
+unfoldable pub steps : (Record → Entry → Stepped) → ℕ → Record → List ℕ → Ran
+steps f zero r bs = ran r 0 0 0
+steps f (suc n) r bs =
+    let e = entryAt bs in
+    cond (frontOf bs .whole && isNone (refusalOf (f r e .answer))) (behind 10 (commandsBy r e) (refreshesBy r e) (steps f n (f r e .rec) (drop 10 bs))) (ran r 0 0 0)
+
 abbrev pub Keeps : (Record → Entry → Stepped) → Type 0
-Keeps f = (r : Record) (e : Entry) → Left (stepRefusal (lentOf r) e) r e (f r e)
+Keeps f = (r : Record) (e : Entry) →
+    let args : Args step.signature tt = (r, (e .stamp, (e .pins, tt))) in
+    step-claims tt args (f r e) (atExit step.ended tt args (tt, (tt, (tt, tt)))) .claim
 
 -- the run through these entries, and then any one entry more. `stands` shuts out a step that leaves the record still, and `next`, at every list of entries, one
 -- whose later steps nod through
@@ -61,14 +82,14 @@ by-list card past good all e =
     (λ (p : (e .stamp < standsAt card past 0) × (leb (standsAt card past 0) (e .stamp) ≡ false)). step-below card past 0 good all paid e (p .0) ∙ sym (early card past e (p .0)))
     (le-cases (standsAt card past 0) (e .stamp))
 
-sound-if : (l : Lent) (e : Entry) → stepRefusal l e ≡ none → lentGood l ≡ true
-unfolding stepRefusal firstOf
-sound-if l e n = unless-none (lentGood l) 13 (orElse-none (unless (lentGood l) 13) _ n .0)
+neither : {A : Type 0} (b : Bool) (x y z : A) → cond (b && false) x z ≡ cond (b && false) y z
+neither true x y z = refl
+neither false x y z = refl
 
 module _ (f : Record → Entry → Stepped) (keeps : Keeps f) where
   after-it : (r : Record) (e : Entry) → stepRefusal (lentOf r) e ≡ none → lentOf (f r e .rec) ≡ lentAfter (lentOf r) e
   unfolding unlessRefused
-  after-it r e n = rw n at (keeps r e .lent (sound-if (lentOf r) e n))
+  after-it r e n = rw n at (keeps r e .lent (step-passed (lentOf r) e n .good))
 
   -- the run of records is the run of the rules' records
   run-lent : (es : List Entry) (r : Record) → Option·map lentOf (run f r es) ≡ runSteps (lentOf r) es
@@ -86,6 +107,29 @@ module _ (f : Record → Entry → Stepped) (keeps : Keeps f) where
           let off : run f r (e ∷ es) ≡ none = rw (keeps r e .told ∙ n, run) in
           let there : runSteps (lentOf r) (e ∷ es) ≡ none = rw (n, runSteps) in
           ap (λ (o : Option Record). Option·map lentOf o) off ∙ sym there
+
+  -- ---- over bytes: what keeps the promise of `run` is these steps, to the bit
+  left-record : (r : Record) (e : Entry) → stepRefusal (lentOf r) e ≡ none → f r e .rec ≡ recordWith r e
+  unfolding unlessRefused recordWith
+  left-record r e n =
+      let after = recordAfter r (commandIn (lentOf r) e) (e .stamp) in
+      let is : f r e .rec ≡ after (f r e .rec .ledger) = rw n at (keeps r e .is) in
+      let there : ledgerOf (f r e .rec .ledger) ≡ ledgerWith (lentOf r) e = rw n at (keeps r e .ledger) in
+      is ∙ ap after (sym (code-is (f r e .rec .ledger)) ∙ ap codeOf there)
+
+  run-is : (n : ℕ) (r : Record) (bs : List ℕ) → runOf n r bs ≡ steps f n r bs
+  unfolding runOf steps
+  run-is zero r bs = refl
+  run-is (suc n) r bs = go (stepRefusal (lentOf r) (entryAt bs)) refl (run-is n (f r (entryAt bs) .rec) (drop 10 bs))
+    where
+      go : (o : Option Refusal) → stepRefusal (lentOf r) (entryAt bs) ≡ o → runOf n (f r (entryAt bs) .rec) (drop 10 bs) ≡ steps f n (f r (entryAt bs) .rec) (drop 10 bs) →
+          runOf (suc n) r bs ≡ steps f (suc n) r bs
+      go none e ih = unfold runOf steps takes isNone in rw (keeps r (entryAt bs) .told, e, ← ih, left-record r (entryAt bs) e)
+      go (some x) e ih = unfold runOf steps takes isNone in rw (keeps r (entryAt bs) .told, e) (neither (frontOf bs .whole) _ _ _)
+
+  pub by-steps : (κs : Lfts (public.signature .lifetimes)) (a : Args public.signature κs) (r : Ran) (x : AtExit public.ended κs) → run-claims κs a r x .claim →
+      r ≡ steps f (a .1 .1 .0) (a .0) (now (a .1 .0))
+  by-steps κs a r x e = e ∙ run-is (a .1 .1 .0) (a .0) (now (a .1 .0))
 
   module _ (card : Card) (good : cardGood (cardOf card) ≡ true) (es : List Entry) where
     to-steps : (s : Record) → run f (freshOf card) es ≡ some s → runSteps (fresh (cardOf card)) es ≡ some (lentOf s)

@@ -1,23 +1,22 @@
 -- The checks of a step, part by part.
 use Prim.Native.Nat.{ℕ}
 use mathlib.Core.Path.{_≡_, refl, ap, sym, _∙_}
-use mathlib.Core.Bool.{Bool, true, false, _&&_}
+use mathlib.Core.Bool.{true}
 use mathlib.Core.List.{List, [], _∷_, _++_}
 use mathlib.Core.Option.{Option, none, some}
-use lib.Dec.{leb}
-use Rattle.rules.specs.Units.{Delays}
+use Rattle.rules.specs.Units.{Delays, delaysOf}
 use Rattle.rules.specs.Pins.{Decoded}
 use Rattle.rules.specs.Past.{isCounted}
 use Rattle.rules.specs.Folds.{orElse, firstOf}
 use Rattle.rules.specs.Entries.{Entry, read, commandOf}
-use Rattle.rules.specs.Checks.{unless, checks}
-use Rattle.rules.specs.Lent.{Lent, viewIn, aboveLast, commandIn, countedIn, ledgerWith, ledgerGood}
-use Rattle.rules.proofs.Tests.{both-true, some-none}
+use Rattle.rules.specs.Checks.{checks}
+use Rattle.rules.specs.Lent.{Lent, viewIn, commandIn, countedIn, ledgerWith, lentGood, stepRefusal}
 use Rattle.rules.proofs.Decided.{orElse-none, or-none}
+use Rattle.rules.proofs.Sound.{ledger-good}
 use Rattle.ledger.specs.Values.{ledgerOf}
 use Rattle.step.specs.declared.account.Account.{Account}
 use Rattle.step.specs.declared.offering.Ruling.{Ruling}
-use Rattle.step.specs.Values.{refusalOf, offerRefusal}
+use Rattle.step.specs.Values.{refusalOf}
 use Rattle.step.specs.Parts.{openingRefusal, AccountAt, readingRefusal, judgedRefusal, ledgerAs, ruledRefusal, Ruled}
 
 module _ {A : Type 0} where
@@ -44,25 +43,12 @@ unfolding orElse
 or-else-if none y z w e = ap (orElse y) (e refl)
 or-else-if (some a) y z w e = refl
 
-pub unless-none : (b : Bool) (k : ℕ) → unless b k ≡ none → b ≡ true
-unfolding unless
-unless-none true k e = refl
-unless-none false k e = absurd (some-none (sym e))
+-- ---- a step by its parts, which ask 13 of the ledger alone
+pub step-is : (l : Lent) (e : Entry) → lentGood l ≡ true → stepRefusal l e ≡ ruledRefusal (delaysOf (l .card)) l (read (l .card) (viewIn l) e) (e .stamp)
+unfolding stepRefusal checks ruledRefusal openingRefusal judgedRefusal readingRefusal ledgerAs ledgerWith countedIn commandIn viewIn
+step-is l e good = rw (good ∙ sym (ledger-good l good)) (three-four-two _ _ _ _ _ _ _ _ _)
 
 module _ (d : Delays) (l : Lent) where
-  pub offer-is : (e : Entry) → offerRefusal d l e ≡ ruledRefusal d l (read (l .card) (viewIn l) e) (e .stamp)
-  unfolding offerRefusal checks ruledRefusal openingRefusal judgedRefusal readingRefusal ledgerAs ledgerWith countedIn commandIn viewIn
-  offer-is e = three-four-two _ _ _ _ _ _ _ _ _
-
-  -- what is taken came above the last entry
-  pub taken-above : (x : Decoded) (t : ℕ) → ruledRefusal d l x t ≡ none → aboveLast (l .last) t ≡ true
-  unfolding ruledRefusal openingRefusal firstOf
-  taken-above x t n =
-      let opening = orElse-none _ _ n .0 in
-      let later = orElse-none (unless (ledgerGood (l .card) (l .ledger)) 13) _ opening .1 in
-      let rises = orElse-none (unless (aboveLast (l .last) t && leb (l .ledger .at) t) 5) _ later .0 in
-      both-true (aboveLast (l .last) t) (leb (l .ledger .at) t) (unless-none _ 5 rises) .0
-
   -- 11 at the stamp counts where the account gives nothing before it
   pub ruled-so : (x : Decoded) (t : ℕ) (a : Account) → AccountAt (isCounted (commandOf x) (l .counter)) (l .card) (l .last) (l .ledger) t a → (w : Ruling) →
       refusalOf (w .answer) ≡ orElse (refusalOf (a .opening)) (orElse (judgedRefusal d l x t) (refusalOf (a .here))) → w .ledger ≡ a .ledger → Ruled d l x t w

@@ -1,3 +1,6 @@
--- The answers of a step, read as the rules' refusals; what it leaves; its parts.
+-- The answers of a step, read as the rules' refusals; what it leaves; a run; the parts of a step; the quick test, and the quick run.
 pub mod Values
+pub mod Runs
 pub mod Parts
+pub mod Ready
+pub mod Quick

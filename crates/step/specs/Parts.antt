@@ -1,12 +1,13 @@
 -- The parts of a step, each with its own refusals.
-use Prim.Native.Nat.{ℕ}
+use Prim.Native.Nat.{ℕ, _+_, _-_, _*_, _/_, _≤_, _<_, _^_}
 use mathlib.Core.Path.{_≡_}
-use mathlib.Core.Bool.{Bool, cond, not, _&&_}
-use mathlib.Core.List.{[], _∷_}
+use mathlib.Core.Bool.{Bool, true, cond, not, _&&_}
+use mathlib.Core.List.{List, [], _∷_}
 use mathlib.Core.Option.{Option, none, some}
 use lib.Dec.{leb, eqb}
+use lib.ListN.{length, drop}
 use Rattle.rules.specs.Card.{Card}
-use Rattle.rules.specs.Units.{Delays, interval}
+use Rattle.rules.specs.Units.{Delays, interval, delaysOf}
 use Rattle.rules.specs.Commands.{Command}
 use Rattle.rules.specs.Pins.{Decoded}
 use Rattle.rules.specs.Past.{isCounted}
@@ -15,14 +16,24 @@ use Rattle.rules.specs.Folds.{orElse, firstOf, firstBroken}
 use Rattle.rules.specs.Delays.{delayRules}
 use Rattle.rules.specs.Entries.{commandOf}
 use Rattle.rules.specs.Checks.{Refusal, unless, named, isWrong, isReserved, valueGood}
-use Rattle.rules.specs.Lent.{Ledger, Lent, lookIn, aboveLast, entered, failingOf, failingTo, ledgerGood}
+use Rattle.rules.specs.Lent.{Ledger, Lent, lookIn, aboveLast, entered, failingOf, failingTo, ledgerGood, lentGood}
+use Rattle.card.specs.Values.{clocksOf}
+use Rattle.card.specs.declared.Delays as code
 use Rattle.ledger.specs.Values.{ledgerOf}
 use Rattle.bank.specs.declared.Record.{Record}
+use Rattle.bank.specs.Values.{lentOf}
 use Rattle.bank.specs.After.{Changed}
+use Rattle.step.specs.declared.Ran.{Ran}
 use Rattle.step.specs.declared.Stepped.{Stepped}
 use Rattle.step.specs.declared.account.Account.{Account}
 use Rattle.step.specs.declared.offering.Ruling.{Ruling}
 use Rattle.step.specs.Values.{refusalOf}
+use Rattle.step.specs.Runs.{behind, runOf}
+
+-- a record that 13 lets pass, and the delays of its card
+pub record Prepared (rec : Record) (delays : code.Delays) : Type 0 where
+  pub good : lentGood (lentOf rec) ≡ true
+  pub clocks : clocksOf delays ≡ delaysOf (lentOf rec .card)
 
 -- ---- the stamp and the account
 -- 13 of the ledger, 5, and 11 below the stamp
@@ -71,6 +82,34 @@ pub record Ruled (delays : Delays) (l : Lent) (d : Decoded) (t : ℕ) (r : Rulin
 
 -- the record is changed where the entry is taken, and only there
 pub record Settled (rec : Record) (stamp : ℕ) (c : Command) (w : Ruling) (r : Stepped) : Type 0 where
-  pub told : r .answer ≡ w .answer
+  pub told : refusalOf (r .answer) ≡ refusalOf (w .answer)
   pub kept : (x : Refusal) → refusalOf (w .answer) ≡ some x → r .rec ≡ rec
   pub changed : refusalOf (w .answer) ≡ none → Changed rec stamp c (w .ledger) (r .rec)
+
+-- ---- a run
+-- what was run, and what was run behind it, add up in 64 bits
+pub record Fitting (first then : Ran) : Type 0 where
+  pub used : first .used + then .used < 2 ^ 64
+  pub commands : first .commands + then .commands < 2 ^ 64
+  pub refreshes : first .refreshes + then .refreshes < 2 ^ 64
+
+-- whole entries, at most so many and within the bytes, that left a sound record
+pub record SoFar (delays : code.Delays) (bs : List ℕ) (most : ℕ) (r : Ran) : Type 0 where
+  pub sound : Prepared (r .rec) delays
+  pub entries : ℕ
+  pub used : r .used ≡ 10 * entries
+  pub few : entries ≤ most
+  pub within : r .used ≤ length bs
+  pub commands : r .commands ≤ r .used
+  pub refreshes : r .refreshes ≤ r .used
+
+-- the whole run, where so much of it was run
+unfoldable pub onwards : List ℕ → (most : ℕ) → Ran → Ran
+onwards bs most r = behind (r .used) (r .commands) (r .refreshes) (runOf (most - r .used / 10) (r .rec) (drop (r .used) bs))
+
+-- one turn: the whole run stays what it is, and where nothing was taken it ends there
+pub record Turned (delays : code.Delays) (bs : List ℕ) (most : ℕ) (before r : Ran) : Type 0 where
+  pub so-far : SoFar delays bs most r
+  pub same : onwards bs most r ≡ onwards bs most before
+  pub not-less : before .used ≤ r .used
+  pub ends : r .used ≡ before .used → onwards bs most r ≡ r

@@ -1,15 +1,11 @@
 -- What a step tells and leaves, read as the values of the rules.
 use Prim.Native.Nat.{ℕ}
 use mathlib.Core.Path.{_≡_}
-use mathlib.Core.Bool.{true, _&&_}
-use mathlib.Core.List.{_∷_}
+use mathlib.Core.Bool.{true}
 use mathlib.Core.Option.{Option, none, some}
-use lib.Dec.{leb}
-use Rattle.rules.specs.Units.{Delays, interval}
-use Rattle.rules.specs.Folds.{firstOf}
-use Rattle.rules.specs.Entries.{Entry, read}
-use Rattle.rules.specs.Checks.{Refusal, refusal, unless, checks}
-use Rattle.rules.specs.Lent.{Lent, viewIn, aboveLast, commandIn, failingTo, failingOf, ledgerGood, ledgerWith, lentGood, lentAfter}
+use Rattle.rules.specs.Entries.{Entry}
+use Rattle.rules.specs.Checks.{Refusal, refusal}
+use Rattle.rules.specs.Lent.{commandIn, ledgerWith, lentGood, lentAfter}
 use Rattle.ledger.specs.Values.{ledgerOf, codeOf, unlessRefused}
 use Rattle.bank.specs.declared.Record.{Record}
 use Rattle.bank.specs.Values.{lentOf}
@@ -18,7 +14,7 @@ use Rattle.step.specs.declared.Answer.{Answer}
 use Rattle.step.specs.declared.Answer.the-variants.{Taken, BadRecord, Early, Overdue, WrongBits, Reserved, State, Value, TooSoon}
 use Rattle.step.specs.declared.Stepped.{Stepped}
 
--- document 01's number, rule and cycle of each case
+-- document 01's numbers of each case
 unfoldable pub refusalOf : Answer → Option Refusal
 refusalOf Taken = none
 refusalOf BadRecord = some (refusal 13 0 0)
@@ -35,17 +31,6 @@ steppedAs rec a = record { rec = rec; answer = a }
 
 abbrev pub entryOf : (stamp pins : ℕ) → Entry
 entryOf t p = record { stamp = t; pins = p }
-
--- a step by these delays, where 13 is asked of the ledger alone: for a caller who carries the delays beside a record that is known to be sound
-unfoldable pub offerRefusal : Delays → Lent → Entry → Option Refusal
-offerRefusal d l e =
-    let I = interval (l .card) in
-    let t = e .stamp in
-    firstOf (
-    unless (ledgerGood (l .card) (l .ledger)) 13 ∷
-    checks (l .card) d (viewIn l) (aboveLast (l .last) t && leb (l .ledger .at) t) (failingTo I (l .ledger) t) (failingOf I (ledgerWith l e))
-    (read (l .card) (viewIn l) e) t
-    )
 
 -- the record after an entry that is taken, to the bit
 unfoldable pub recordWith : Record → Entry → Record

@@ -1,15 +1,18 @@
-// An entry offered to a record: 13, 5, 11 below its stamp, 6, 7, 8, 9, 10, 11 at its stamp; and the record then.
+// An entry offered to a record: 13, 5, 11 below its stamp, 6, 7, 8, 9, 10, 11 at its stamp; and the record then. A run of entries, up to the first that is refused.
 mod account;
+mod cycles;
 mod delays;
+mod kinds;
 mod offering;
 mod reading;
+mod running;
+mod turns;
+mod waits;
 
 pub use account::as_told;
-pub use account::counts;
 use bank::Record;
-pub use offering::offered;
 pub use offering::step;
-pub use reading::command_of;
+pub use turns::run;
 
 // What a caller is told: the entry is taken, or a refusal; 10 and 11 with the rule and the cycle.
 pub enum Answer {
@@ -28,4 +31,12 @@ pub enum Answer {
 pub struct Stepped {
     pub rec: Record,
     pub answer: Answer,
+}
+
+// How far a run came: the record then, the bytes taken, how many of the entries are not NOP, and how many are counted refreshes.
+pub struct Ran {
+    pub rec: Record,
+    pub used: usize,
+    pub commands: u64,
+    pub refreshes: u64,
 }

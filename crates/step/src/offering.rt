@@ -6,7 +6,7 @@ ghost use Rattle.card.specs.Values.{clocksOf};
 ghost use Rattle.pins.specs.Values.{commandOf, decodedOf};
 ghost use Rattle.ledger.specs.Values.{isNone};
 ghost use Rattle.bank.specs.Values.{lentOf};
-ghost use Rattle.step.specs.Values.{refusalOf, steppedAs, offerRefusal, entryOf, Left};
+ghost use Rattle.step.specs.Values.{refusalOf, steppedAs, entryOf, Left};
 ghost use Rattle.step.specs.Parts.{judgedRefusal, Ruled, Settled};
 use crate::Answer;
 use crate::Stepped;
@@ -25,7 +25,7 @@ pub struct Ruling {
     pub ledger: Ledger,
 }
 
-fn taken(answer: Answer) -> bool
+pub fn taken(answer: Answer) -> bool
     ensures { λ r. ⌜ r ≡ isNone (refusalOf answer) ⌝ }
 {
     match answer {
@@ -55,7 +55,7 @@ fn judged(rec: Record, delays: Delays, decoded: Decoded, stamp: u32) -> Answer
 }
 
 // 13 of the ledger, 5, 11 below the stamp; 6 to 10; 11 at the stamp.
-fn ruled(rec: Record, delays: Delays, decoded: Decoded, stamp: u32) -> Ruling
+pub fn ruled(rec: Record, delays: Delays, decoded: Decoded, stamp: u32) -> Ruling
     ensures { λ r. ⌜ Ruled (clocksOf delays) (lentOf rec) (decodedOf decoded) stamp r ⌝ }
 {
     let counted = account::counts(reading::command_of(decoded), rec.counter);
@@ -84,20 +84,11 @@ fn settled(rec: Record, stamp: u32, command: Command, ruling: Ruling) -> Stepped
     ensures { λ r. ⌜ Settled rec stamp (commandOf command) ruling r ⌝ }
 {
     let answer = ruling.answer;
-    let next = bank::after(rec, stamp, command, ruling.ledger);
-    if !taken(answer) {
-        return told(rec, answer);
+    if taken(answer) {
+        let next = bank::after(rec, stamp, command, ruling.ledger);
+        return told(next, Answer::Taken);
     }
-    told(next, answer)
-}
-
-// To a record that is known to be sound, with the delays of its card: 13 is asked of the ledger alone.
-pub fn offered(rec: Record, delays: Delays, stamp: u32, pins: u32) -> Stepped
-    ensures { λ r. ⌜ Left (offerRefusal (clocksOf delays) (lentOf rec) (entryOf stamp pins)) rec (entryOf stamp pins) r ⌝ }
-{
-    let decoded = pins::decode(pins);
-    let ruling = ruled(rec, delays, decoded, stamp);
-    settled(rec, stamp, reading::command_of(decoded), ruling)
+    told(rec, answer)
 }
 
 // To any record.
@@ -107,5 +98,7 @@ pub fn step(rec: Record, stamp: u32, pins: u32) -> Stepped
     if !bank::good(rec) {
         return told(rec, Answer::BadRecord);
     }
-    offered(rec, card::delays_of(rec.card), stamp, pins)
+    let decoded = pins::decode(pins);
+    let ruling = ruled(rec, card::delays_of(rec.card), decoded, stamp);
+    settled(rec, stamp, reading::command_of(decoded), ruling)
 }

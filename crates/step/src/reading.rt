@@ -72,7 +72,7 @@ fn value_good(card: Card, command: Command) -> bool
     let Command::Mrw { ma, op } = command else {
         return true;
     };
-    card::may_write(card.period, ma, op)
+    card::mrw_value_good(card.period, ma, op)
 }
 
 // 8, then 9.

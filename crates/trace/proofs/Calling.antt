@@ -9,12 +9,12 @@ use lib.ListN.{length, take, drop, length-take, length-drop, length-append}
 use lib.Seq.{length-take-le, take-at, take-append-le, take-append-add}
 use borrow.Author.Tests.{le-leb}
 use borrow.Rule.Slice.PartMut.{postOf, putMid}
-use Rattle.judge.specs.declared.State.{State}
-use Rattle.judge.specs.declared.Verdict.{Verdict}
-use Rattle.judge.specs.declared.Fed.{Fed}
-use Rattle.judge.specs.declared.What.{What}
-use Rattle.judge.specs.declared.What.the-variants.{More, Full, Over}
-use Rattle.judge.specs.Heard.{Heard, heardOf, FedAs, finishedOf}
+use Rattle.chunks.specs.declared.State.{State}
+use Rattle.chunks.specs.declared.Verdict.{Verdict}
+use Rattle.chunks.specs.declared.Fed.{Fed}
+use Rattle.chunks.specs.declared.What.{What}
+use Rattle.chunks.specs.declared.What.the-variants.{More, Full, Over}
+use Rattle.chunks.specs.Heard.{Heard, heardOf, FedAs, finishedOf}
 use Rattle.judge.proofs.Progress.{used-fits, left-short}
 use Rattle.judge.proofs.Chunks.{Run, call}
 use Rattle.trace.specs.declared.turns.Next.{Next}

@@ -8,15 +8,15 @@ use lib.ListN.{length, take, drop, length-drop, drop-of-length-le}
 use lib.Seq.{length-take-le, drop-at}
 use Rattle.rules.specs.Form.{headOf}
 use Rattle.rules.specs.Lines.{verdictLine}
-use Rattle.judge.specs.declared.State.{State}
-use Rattle.judge.specs.declared.Verdict.{Verdict}
-use Rattle.judge.specs.declared.What.{What}
-use Rattle.judge.specs.declared.What.the-variants.{More, Full, Over}
-use Rattle.judge.specs.declared.fields.Move.the-variants.{Wait}
-use Rattle.judge.specs.Values.{verdictOf}
-use Rattle.judge.specs.Took.{headTook, asRead, tookOf}
-use Rattle.judge.specs.Heard.{startOf, Heard, behind, heardOf, finishedOf}
-use Rattle.judge.proofs.Walks.{Walk, stops-full, stops-more, stops-over, takes, walk}
+use Rattle.chunks.specs.declared.State.{State}
+use Rattle.chunks.specs.declared.Verdict.{Verdict}
+use Rattle.chunks.specs.declared.What.{What}
+use Rattle.chunks.specs.declared.What.the-variants.{More, Full, Over}
+use Rattle.chunks.specs.declared.fields.Move.the-variants.{Wait}
+use Rattle.chunks.specs.Values.{verdictOf}
+use Rattle.chunks.specs.Took.{headTook, asRead, tookOf}
+use Rattle.chunks.specs.Heard.{startOf, Heard, behind, heardOf, finishedOf}
+use Rattle.chunks.proofs.Walks.{Walk, stops-full, stops-more, stops-over, takes, walk}
 use Rattle.judge.proofs.Chunks.{Run, begin, bytes, call}
 use Rattle.judge.proofs.Streams.{chunks-end, chunks-over, chunks-end-lines, chunks-over-lines, waits}
 use Rattle.trace.specs.declared.turns.Next.{Next}

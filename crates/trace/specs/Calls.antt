@@ -4,10 +4,10 @@ use mathlib.Core.Path.{_≡_}
 use mathlib.Core.Bool.{Bool, true, false}
 use mathlib.Core.List.{List, _++_}
 use lib.ListN.{length, take, drop}
-use Rattle.judge.specs.declared.State.{State}
-use Rattle.judge.specs.declared.What.{What}
-use Rattle.judge.specs.declared.What.the-variants.{More, Full, Over}
-use Rattle.judge.specs.Heard.{startOf, Heard, finishedOf}
+use Rattle.chunks.specs.declared.State.{State}
+use Rattle.chunks.specs.declared.What.{What}
+use Rattle.chunks.specs.declared.What.the-variants.{More, Full, Over}
+use Rattle.chunks.specs.Heard.{startOf, Heard, finishedOf}
 use Rattle.trace.specs.declared.turns.Next.{Next}
 use Rattle.trace.specs.declared.turns.Next.the-variants.{Read, Judge, Tell, Failed}
 use Rattle.trace.specs.declared.turns.Turn.{Turn}

@@ -6,11 +6,11 @@ use mathlib.Core.List.{List, [], _++_}
 use lib.ListN.{length, take, drop}
 use Rattle.rules.specs.File.{judgeFile}
 use Rattle.rules.specs.Lines.{verdictLine, linesOf}
-use Rattle.judge.specs.declared.State.{State}
-use Rattle.judge.specs.declared.fields.Move.the-variants.{Wait}
-use Rattle.judge.specs.Values.{verdictOf}
-use Rattle.judge.specs.Took.{tookOf}
-use Rattle.judge.proofs.Overflow.{Bytes}
+use Rattle.chunks.specs.declared.State.{State}
+use Rattle.chunks.specs.declared.fields.Move.the-variants.{Wait}
+use Rattle.chunks.specs.Values.{verdictOf}
+use Rattle.chunks.specs.Took.{tookOf}
+use Rattle.chunks.proofs.Bytes.{Bytes}
 use Rattle.judge.proofs.Chunks.{Run}
 use Rattle.trace.specs.declared.turns.Next.{Next}
 use Rattle.trace.specs.declared.turns.Next.the-variants.{Read, Judge, Tell, Done, Failed}

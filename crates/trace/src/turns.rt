@@ -3,13 +3,13 @@ ghost use mathlib.Core.Path.{_≡_};
 ghost use Prim.Native.Nat.{_-_, _≤_, _<_};
 ghost use lib.ListN.{length, take, drop};
 ghost use Rattle.rules.specs.Lines.{verdictLine};
-ghost use Rattle.judge.specs.Values.{verdictOf};
-ghost use Rattle.judge.specs.Heard.{heardOf};
+ghost use Rattle.chunks.specs.Values.{verdictOf};
+ghost use Rattle.chunks.specs.Heard.{heardOf};
 ghost use Rattle.trace.specs.Calls as calls;
 ghost use Rattle.trace.specs.Standing.{Turned, Fits};
-use judge::State;
-use judge::Verdict;
-use judge::What;
+use chunks::State;
+use chunks::Verdict;
+use chunks::What;
 use libc::STDIN_FILENO;
 
 // What the next turn does: it reads, or has the judge go on, or tells the verdict; or there is none, since that was told or a read failed.
@@ -46,7 +46,7 @@ fn silent(next: Next, ended: bool, state: State, have: usize) -> Turn
 pub fn first() -> Turn
     ensures { λ r. ⌜ r ≡ calls.firstTurn ⌝ }
 {
-    silent(Next::Read, false, judge::start(), 0)
+    silent(Next::Read, false, chunks::start(), 0)
 }
 
 fn next_of(what: What) -> Next
@@ -92,7 +92,7 @@ fn judge_some(state: State, buf: &mut [u8], have: usize, out: &mut [u8], quiet: 
     requires { ⌜ have ≤ length (now buf) ⌝ }
     ensures { λ r. ⌜ calls.CalledAs (heardOf quiet (length (now (out .entry))) state (take have (now (buf .entry)))) (take have (now (buf .entry))) (now (out .entry)) (now (out .exit)) (now (buf .exit)) r ⌝ }
 {
-    let fed = judge::feed(state, &buf[..have], out, quiet);
+    let fed = chunks::feed(state, &buf[..have], out, quiet);
     let what = fed.what;
     let state = fed.state;
     let left = shift(buf, fed.used, have);
@@ -118,7 +118,7 @@ fn read_some(state: State, buf: &mut [u8], have: usize) -> Turn
     }
     let more = io::count(got, room);
     if more == 0 {
-        let verdict = judge::finish(state, &buf[..have]);
+        let verdict = chunks::finish(state, &buf[..have]);
         return silent(Next::Tell(verdict), true, state, have);
     }
     silent(Next::Judge, false, state, have + more)
@@ -130,7 +130,7 @@ fn tell(at: Turn, out: &mut [u8], verdict: Verdict) -> Turn
     ensures turn { λ r. ⌜ r ≡ calls.goneTo at Next.Done (length (verdictLine (verdictOf verdict))) ⌝ }
     ensures text { λ r. ⌜ take (r .wrote) (now (out .exit)) ≡ verdictLine (verdictOf verdict) ⌝ }
 {
-    let size = judge::verdict_line(out, verdict);
+    let size = chunks::verdict_line(out, verdict);
     gone_to(at, Next::Done, size)
 }
 

@@ -1,11 +1,11 @@
 -- Nothing seen, nothing open, nothing owed.
 use mathlib.Core.Path.{refl}
-use Rattle.bank.specs.Values.{never, neverNoted, neverEach, neverNotedEach, freshOf}
+use Rattle.bank.specs.Values.{never, neverNoted, neverEach, neverNotedEach, neverFour, freshOf}
 use Rattle.bank.proofs.fresh.fresh_record.Statement.{statement}
 use Rattle.bank.proofs.fresh.fresh_record.Tie as tie
 
 returns : tie.Need-returns
-unfolding never neverNoted neverEach neverNotedEach freshOf
+unfolding never neverNoted neverEach neverNotedEach neverFour freshOf
 returns c = refl
 
 pub fresh-record-spec : {M : Type 1} → statement M

@@ -12,13 +12,13 @@ use Rattle.bank.proofs.sound.four_by.Statement.{statement}
 use Rattle.bank.proofs.sound.four_by.Tie as tie
 
 abbrev Inv-loop : tie.InvT-loop
-Inv-loop last count at i₀ i = (i ≤ 4) × (fourBy last count at ≡ onward (λ k. keptBy last (ltb k count) (getD at k 0)) i (4 - i))
+Inv-loop last count at i₀ i = (i ≤ 4) × (fourBy last (record { count = count; at = at }) ≡ onward (λ k. keptBy last (ltb k count) (getD at k 0)) i (4 - i))
 
 abbrev μ-loop : tie.MeasureT-loop
 μ-loop last count at i₀ i = 4 - i
 
 loop-holds : tie.Need-loop-holds Inv-loop μ-loop
-loop-holds c = (omega arith, fours _ _ _ (omega arith))
+loop-holds c = (omega arith, fours _ _)
 
 returns : tie.Need-returns Inv-loop μ-loop
 returns c = let x = c .before .before .before .loop in fails _ 4 (x .i) _ (x .inv .1) (omega arith) _ (c .before .by .ensures) (c .if1 .taken)

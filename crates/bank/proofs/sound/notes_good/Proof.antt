@@ -12,10 +12,10 @@ use Rattle.bank.proofs.sound.notes_good.Statement.{statement}
 use Rattle.bank.proofs.sound.notes_good.Tie as tie
 
 abbrev Inv-loop : tie.InvT-loop
-Inv-loop period x i₀ i = (i ≤ 8) × (notesGood period (x .seen) (x .mr2) ≡ onward (λ k. noteGood period (getD (x .seen) k false) (getD (x .mr2) k 0)) i (8 - i))
+Inv-loop period now x i₀ i = (i ≤ 8) × (notesGood period (x .seen) (x .mr2) ≡ onward (λ k. noteGood period (getD (x .seen) k false) (getD (x .mr2) k 0)) i (8 - i))
 
 abbrev μ-loop : tie.MeasureT-loop
-μ-loop period x i₀ i = 8 - i
+μ-loop period now x i₀ i = 8 - i
 
 loop-holds : tie.Need-loop-holds Inv-loop μ-loop
 unfolding notesGood

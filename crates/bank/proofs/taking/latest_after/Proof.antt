@@ -5,7 +5,7 @@ use mathlib.Core.List.{List, [], _∷_}
 use Rattle.rules.specs.Commands.{code, is, kindOf, carries, bare, MRW, MRR, REFPB, REFAB, PREA}
 use Rattle.pins.specs.Values.{commandOf}
 use Rattle.bank.specs.After.{onceIf, latestAfter}
-use Rattle.bank.proofs.Unlisted.{unlisted}
+use Rattle.pins.proofs.Unlisted.{unlisted}
 use Rattle.bank.proofs.taking.latest_after.Statement.{statement}
 use Rattle.bank.proofs.taking.latest_after.Tie as tie
 

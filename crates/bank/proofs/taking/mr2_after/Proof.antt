@@ -6,7 +6,7 @@ use borrow.Author.Tests.{ne-eqb}
 use Rattle.rules.specs.Commands.{code, is, kindOf, carries, bare, MRW}
 use Rattle.rules.specs.Past.{registerAfter}
 use Rattle.pins.specs.Values.{commandOf}
-use Rattle.bank.proofs.Unlisted.{unlisted}
+use Rattle.pins.proofs.Unlisted.{unlisted}
 use Rattle.bank.proofs.taking.mr2_after.Statement.{statement}
 use Rattle.bank.proofs.taking.mr2_after.Tie as tie
 

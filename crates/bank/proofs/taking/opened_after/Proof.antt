@@ -5,7 +5,7 @@ use mathlib.Core.List.{List, [], _∷_}
 use Rattle.rules.specs.Commands.{code, is, kindOf, carries, bare, bankOf, apOf, ACT, RD, WR, PRE, PREA}
 use Rattle.pins.specs.Values.{commandOf}
 use Rattle.bank.specs.After.{shuts, openedAfter}
-use Rattle.bank.proofs.Unlisted.{unlisted}
+use Rattle.pins.proofs.Unlisted.{unlisted}
 use Rattle.bank.proofs.taking.opened_after.Statement.{statement}
 use Rattle.bank.proofs.taking.opened_after.Tie as tie
 

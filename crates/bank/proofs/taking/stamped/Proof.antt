@@ -6,7 +6,7 @@ use Rattle.rules.specs.Commands.{code, is, kindOf, carries, bare, bankOf, apOf,
 use Rattle.rules.specs.Past.{bankAt}
 use Rattle.pins.specs.Values.{commandOf}
 use Rattle.bank.specs.After.{eachIf, notedEachIf, readOn, writtenOn, stampedAfter}
-use Rattle.bank.proofs.Unlisted.{unlisted}
+use Rattle.pins.proofs.Unlisted.{unlisted}
 use Rattle.bank.proofs.taking.stamped.Statement.{statement}
 use Rattle.bank.proofs.taking.stamped.Tie as tie
 

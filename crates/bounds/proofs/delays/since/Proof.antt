@@ -27,7 +27,7 @@ loop-holds c = (omega arith, begins _ _ _ _ _)
 loop-again : tie.Need-loop-again Inv-loop μ-loop
 loop-again c =
     let x = c .before .before .before .loop in
-    (omega arith, rw (c .later .ensures) (goes-on _ _ _ _ _ (x .k) (x .best) _ (x .inv .1) (omega arith) (c .before .at-bank .ensures)))
+    (omega arith, rw (c .greater .ensures) (goes-on _ _ _ _ _ (x .k) (x .best) _ (x .inv .1) (omega arith) (c .before .at-bank .ensures)))
 
 returns : tie.Need-returns Inv-loop μ-loop
 returns c = all-asked _ _ _ _ _ (c .before .loop .k) (c .before .loop .best) (c .before .loop .inv .1) (omega arith)

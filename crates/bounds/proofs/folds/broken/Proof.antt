@@ -1,10 +1,11 @@
 -- The rules from i + 1 on are still to be asked.
 use Prim.Native.Nat.{_+_, _-_, _≤_}
-use mathlib.Core.Path.{_≡_, refl}
+use mathlib.Core.Path.{_≡_, refl, ap}
 use native.Mathlib.Omega.{arith}
 use lib.ListN.{drop}
 use borrow.Author.Needs.{needs}
-use Rattle.bounds.specs.Values.{brokenOf}
+use Rattle.rules.specs.Checks.{named}
+use Rattle.bounds.specs.Values.{refusalOf}
 use Rattle.bounds.specs.Parts.{brokenFrom}
 use Rattle.bounds.proofs.Folded.{breaks, holds, all-hold}
 use Rattle.bounds.proofs.folds.broken.Statement.{statement}
@@ -20,10 +21,10 @@ loop-holds : tie.Need-loop-holds Inv-loop μ-loop
 loop-holds c = (omega arith, refl)
 
 returns : tie.Need-returns Inv-loop μ-loop
-unfolding brokenOf
+unfolding refusalOf named
 returns c =
     let x = c .before .before .loop in
-    breaks _ (x .i) _ (x .inv .1) (omega arith) (c .if1 .taken)
+    ap (named 10) (breaks _ (x .i) _ (x .inv .1) (omega arith) (c .if1 .taken))
 
 loop-again : tie.Need-loop-again Inv-loop μ-loop
 loop-again c =
@@ -31,8 +32,8 @@ loop-again c =
     (omega arith, holds _ (x .i) _ (x .inv .1) (omega arith) (c .if1 .left))
 
 returns-2 : tie.Need-returns-2 Inv-loop μ-loop
-unfolding brokenOf
-returns-2 c = all-hold _ (c .before .loop .i) _ (c .before .loop .inv .1) (omega arith)
+unfolding refusalOf named
+returns-2 c = ap (named 10) (all-hold _ (c .before .loop .i) _ (c .before .loop .inv .1) (omega arith))
 
 pub broken-spec : {M : Type 1} → statement M
 broken-spec =

@@ -1,4 +1,3 @@
-use mathlib.Core.Path.{refl}
 use borrow.Author.Needs.{needs}
 use Rattle.rules.specs.Commands.{banks}
 use Rattle.rules.specs.Lists.{when}

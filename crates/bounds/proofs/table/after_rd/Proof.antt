@@ -11,7 +11,7 @@ returns c =
       c .since2 .ensures,
       c .before .wide2 .ensures .0,
       c .before .before .since .ensures,
-      c .before .before .before .later .ensures,
+      c .before .before .before .greater .ensures,
       c .before .before .before .before .wide .ensures .0,
       c .before .before .before .before .before .idle .ensures,
       c .before .before .before .before .before .before .named .ensures,

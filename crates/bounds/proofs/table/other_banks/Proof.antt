@@ -10,7 +10,7 @@ returns c =
     let a = c .before .before .before .before .before .before .args in
     rw (
       other-banks-is (a .rec) (a .d) (a .command),
-      c .later .ensures,
+      c .greater .ensures,
       c .before .plain2 .ensures,
       c .before .before .plain .ensures,
       c .before .before .before .others-if2 .ensures,

@@ -10,18 +10,18 @@ use Rattle.card.proofs.registers.latency_of.Tie as tie
 returns : tie.Need-returns
 unfolding rlIn wlIn on bits
 returns c =
-    let q = latency-found _ (At (c .before .before .row .given .0 .0)) (sym (c .before .before .before .before .find .ensures) ∙ c .before .before .row .given .1) in
+    let q = latency-found _ (At (c .before .before .row .given .0 .0)) (sym (c .before .before .before .before .row-at .ensures) ∙ c .before .before .row .given .1) in
     (q .0, rw (eq-eqb _ _ (c .if1 .taken)) at (q .1))
 
 returns-2 : tie.Need-returns-2
 unfolding rlIn wlIn on bits
 returns-2 c =
-    let q = latency-found _ (At (c .before .before .row .given .0 .0)) (sym (c .before .before .before .before .find .ensures) ∙ c .before .before .row .given .1) in
+    let q = latency-found _ (At (c .before .before .row .given .0 .0)) (sym (c .before .before .before .before .row-at .ensures) ∙ c .before .before .row .given .1) in
     (q .0, rw (ne-eqb _ _ (c .if1 .left)) at (q .1))
 
 returns-3 : tie.Need-returns-3
 unfolding rlIn wlIn
-returns-3 c = latency-found _ Nothing (sym (c .before .before .find .ensures) ∙ c .enum-told .given .1)
+returns-3 c = latency-found _ Nothing (sym (c .before .before .row-at .ensures) ∙ c .enum-told .given .1)
 
 pub latency-of-spec : {M : Type 1} → statement M
 latency-of-spec =

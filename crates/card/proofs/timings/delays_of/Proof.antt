@@ -1,7 +1,8 @@
+use mathlib.Core.Path.{_≡_}
 use lib.Dec.{lit<}
 use borrow.Author.Needs.{needs}
-use Rattle.rules.specs.Units.{delaysOf}
-use Rattle.card.specs.Values.{clocksOf, shortened, cardOf}
+use Rattle.rules.specs.Units.{rowCycle, delaysOf}
+use Rattle.card.specs.Values.{clocksOf, clipped, shortened, cardOf}
 use Rattle.card.specs.Parts.{Counted}
 use Rattle.card.proofs.timings.delays_of.Statement.{statement}
 use Rattle.card.proofs.timings.delays_of.Tie as tie
@@ -10,7 +11,7 @@ returns : tie.Need-returns
 unfolding Counted clocksOf shortened delaysOf cardOf
 returns c =
     let at = c .before .all-clocks .ensures in
-    let rc = c .row-cycle .ensures in
+    let rc : c .row-cycle .result ≡ clipped (rowCycle (cardOf (c .before .before .args .card))) = c .row-cycle .ensures in
     λ i. record {
       trcd = at 0 (lit< tt) i;
       trppb = at 1 (lit< tt) i;

@@ -1,8 +1,7 @@
 use mathlib.Core.Path.{ap, _∙_}
 use borrow.Author.Needs.{needs}
 use Rattle.rules.specs.Units.{n}
-use Rattle.card.specs.Values.{clk, clipped, cardOf}
-use Rattle.card.specs.declared.Clocks.{Clocks}
+use Rattle.card.specs.Values.{clipped, cardOf}
 use Rattle.card.proofs.timings.timing_clocks.Statement.{statement}
 use Rattle.card.proofs.timings.timing_clocks.Tie as tie
 
@@ -10,7 +9,8 @@ returns : tie.Need-returns
 unfolding n cardOf
 returns c =
     let t = c .before .before .before .timing .ensures in
-    c .short .ensures ∙ ap (λ (k : Clocks). clipped (k .0)) (c .before .least-clocks .ensures ∙ ap clk (rw (t .duration-is, t .floor-is, c .before .before .picoseconds .ensures .0)))
+    c .short .ensures
+    ∙ ap clipped (c .before .least-clocks .ensures ∙ rw (t .duration-is, t .floor-is, c .before .before .picoseconds .ensures .0))
 
 pub timing-clocks-spec : {M : Type 1} → statement M
 timing-clocks-spec =

@@ -1,14 +1,13 @@
-use mathlib.Core.Path.{refl, sym, ap}
+use mathlib.Core.Path.{refl, sym}
 use native.Mathlib.Nat.{div-zero}
 use borrow.Author.Needs.{needs}
 use Rattle.rules.specs.Units.{roundedUp}
-use Rattle.card.specs.Values.{clk}
 use Rattle.card.proofs.units.rounded_up.Statement.{statement}
 use Rattle.card.proofs.units.rounded_up.Tie as tie
 
 returns : tie.Need-returns
 unfolding roundedUp
-returns c = rw (c .if1 .taken) (ap clk (sym (div-zero _)))
+returns c = rw (c .if1 .taken) (sym (div-zero _))
 
 returns-2 : tie.Need-returns-2
 unfolding roundedUp

@@ -5,24 +5,21 @@ use borrow.Author.Tests.{not-true, not-false}
 use borrow.Author.Needs.{needs}
 use Rattle.rules.specs.Ranges.{within}
 use Rattle.rules.proofs.Rounding.{within-both}
-use Rattle.card.specs.Reading.{readOf}
 use Rattle.card.proofs.Lengths.{card-length}
-use Rattle.card.proofs.Numbers.{read-parts}
+use Rattle.card.proofs.Told.{bad-tag, bad-length, in-parts}
 use Rattle.card.proofs.values.read_value.Statement.{statement}
 use Rattle.card.proofs.values.read_value.Tie as tie
 
 returns : tie.Need-returns
-unfolding readOf within
-returns c =
-    let t = c .before .before .args .tag in
-    rw (not-true (leb 1 t && leb t 18) (c .if1 .taken))
+unfolding within
+returns c = let t = c .before .before .args .tag in bad-tag _ t _ (not-true (leb 1 t && leb t 18) (c .if1 .taken))
 
 returns-2 : tie.Need-returns-2
-unfolding readOf within
+unfolding within
 returns-2 c =
     let a = c .before in
     let t = a .before .before .before .args .tag in
-    rw (not-false (leb 1 t && leb t 18) (a .before .if1 .left), ← a .length-good .ensures, not-true (a .length-good .result) (c .if2 .taken))
+    bad-length _ t _ (not-false (leb 1 t && leb t 18) (a .before .if1 .left)) (sym (a .length-good .ensures) ∙ not-true (a .length-good .result) (c .if2 .taken))
 
 fifth-requires : tie.Need-fifth-requires
 unfolding within
@@ -46,9 +43,8 @@ returns-3 c =
     let e = c .before .before .before in
     let a = e .before in
     let t = a .before .before .before .args .tag in
-    c .taken .ensures
-    ∙ rw (c .before .before .first-four .ensures, c .before .fifth .ensures)
-    (read-parts _ t _ (not-false (leb 1 t && leb t 18) (a .before .if1 .left)) (sym (a .length-good .ensures) ∙ not-false (a .length-good .result) (e .if2 .left)))
+    rw (c .taken .ensures, c .before .before .first-four .ensures, c .before .fifth .ensures)
+    (in-parts _ t _ (not-false (leb 1 t && leb t 18) (a .before .if1 .left)) (sym (a .length-good .ensures) ∙ not-false (a .length-good .result) (e .if2 .left)))
 
 pub read-value-spec : {M : Type 1} → statement M
 read-value-spec =

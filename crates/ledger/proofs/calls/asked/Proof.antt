@@ -6,7 +6,7 @@ use Rattle.rules.proofs.Decided.{or-none}
 use Rattle.ledger.specs.Values.{ledgerOf, refusalOf}
 use Rattle.ledger.specs.Parts.{askedOf}
 use Rattle.ledger.proofs.Moves.{refused-as}
-use Rattle.ledger.proofs.Admission.{refused-13, refused-5, not-refused, stood-args}
+use Rattle.ledger.proofs.Admission.{refused-13, refused-5, not-refused, sound-when}
 use Rattle.ledger.proofs.calls.asked.Statement.{statement}
 use Rattle.ledger.proofs.calls.asked.Tie as tie
 
@@ -35,11 +35,12 @@ interval-requires : tie.Need-interval-requires
 interval-requires c κs = search needs
 
 go-on-requires : tie.Need-go-on-requires
+unfolding ledgerOf
 go-on-requires c κs =
     let d = c .before .before .before .admission .ensures in
     let p = not-refused _ _ _ (λ e. c .before .before .if1 .left (d ∙ e)) (λ e. c .before .if2 .left (d ∙ e)) in
-    let a = stood-args _ _ _ (p .0) in
-    record { some = rw (c .interval .ensures) (a .0); low = a .1; later = a .2 }
+    let a = sound-when _ _ (p .0 .good) in
+    record { some = rw (c .interval .ensures) (a .positive); low = a .low; later = p .0 .later }
 
 returns-3 : tie.Need-returns-3
 unfolding askedOf firstOf ledgerOf

@@ -24,20 +24,22 @@ done-requires c κs = search needs
 
 returns-2 : tie.Need-returns-2
 returns-2 c =
-    refused-before _ _ _ _ (c .before .before .reach .ensures .left) (omega (arith, c .before .before .before .before .before .pre .later))
+    refused-before _ _ _ _ (c .before .before .reach .ensures .left) _ (omega arith)
     (sym (c .before .done .ensures) ∙ not-true _ (c .if2 .taken))
 
 next-requires : tie.Need-next-requires
 next-requires c κs = record {
   some = c .before .before .before .before .before .pre .some;
   low = c .before .before .reach .ensures .low;
-  next = cycle-before _ _ _ _ (c .before .before .reach .ensures .left) (omega (arith, c .before .before .before .before .before .pre .later)) (sym (c .before .done .ensures) ∙ not-false _ (c .if2 .left));
+  next =
+      cycle-before _ _ _ _ (c .before .before .reach .ensures .left) _ (omega arith)
+      (sym (c .before .done .ensures) ∙ not-false _ (c .if2 .left));
 }
 
 returns-3 : tie.Need-returns-3
 returns-3 c =
-    comes-there _ _ _ _ (c .before .before .before .reach .ensures .left) (omega (arith, c .before .before .before .before .before .before .pre .later))
-    (sym (c .before .before .done .ensures) ∙ not-false _ (c .before .if2 .left)) _ (c .next .ensures)
+    comes-there _ _ _ _ (c .before .before .before .reach .ensures .left) _ (omega arith)
+    (sym (c .before .before .done .ensures) ∙ not-false _ (c .before .if2 .left)) (omega arith) _ (c .next .ensures)
 
 pub at-stamp-spec : {M : Type 1} → statement M
 at-stamp-spec =

@@ -6,12 +6,6 @@ use Rattle.ledger.proofs.Moves.{none-failing, one-failing}
 use Rattle.ledger.proofs.moving.reach.Statement.{statement}
 use Rattle.ledger.proofs.moving.reach.Tie as tie
 
-cast-idle-to : tie.Need-cast-idle-to
-cast-idle-to c = search needs
-
-cast-idle-to-2 : tie.Need-cast-idle-to-2
-cast-idle-to-2 c = search needs
-
 idle-to-requires : tie.Need-idle-to-requires
 idle-to-requires c κs = search needs
 
@@ -44,8 +38,6 @@ pub reach-spec : {M : Type 1} → statement M
 reach-spec =
     tie.close
     (tie.spec
-    cast-idle-to
-    cast-idle-to-2
     idle-to-requires
     enum-known-x
     enum-known-rule

@@ -1,53 +1,52 @@
--- One line more with each turn. The digits that are kept are those of their number.
-use Prim.Native.Nat.{_*_, _-_, _≤_}
+-- One line more with each turn.
+use Prim.Native.Nat.{_+_, _*_, _-_, _≤_}
 use mathlib.Core.Path.{_≡_, refl}
 use native.Mathlib.Omega.{arith}
 use borrow.Author.Needs.{needs}
 use lib.ListN.{length}
+use Rattle.rules.proofs.Onward.{onward}
 use Rattle.lines.specs.Written.{Put}
-use Rattle.lines.specs.Runs.{linesAt, lineCount}
+use Rattle.lines.specs.Runs.{linesAt, roundAt, lineCount}
 use Rattle.lines.specs.Quick.{LeadGood}
 use Rattle.lines.proofs.Puts.{lined}
-use Rattle.lines.proofs.Leading.{lead-first}
-use Rattle.lines.proofs.LinesIn.{lines-none, lines-next}
+use Rattle.lines.proofs.Leading.{pairs-good}
+use Rattle.lines.proofs.LinesIn.{lines-none, round-none, lines-next}
 use Rattle.lines.proofs.runs.entry_lines.Statement.{statement}
 use Rattle.lines.proofs.runs.entry_lines.Tie as tie
 
 abbrev Inv-loop : tie.InvT-loop
-Inv-loop out₀ bytes count counter n lead₀ wrote₀ i₀ out lead wrote i =
-    Put 0 (linesAt i counter bytes) out₀ out wrote × (i ≤ n) × (wrote ≤ 24 * i) × LeadGood lead × (length out ≡ length out₀)
+Inv-loop out₀ bytes count counter n pairs next₀ i₀ out next i =
+    Put 0 (linesAt i counter bytes) out₀ out (next .at) × (next .counter ≡ roundAt i counter bytes) × (i ≤ n) × (next .at ≤ 24 * i) × LeadGood (next .lead) × (length out ≡ length out₀)
 
 abbrev μ-loop : tie.MeasureT-loop
-μ-loop out₀ bytes count counter n lead₀ wrote₀ i₀ out lead wrote i = n - i
+μ-loop out₀ bytes count counter n pairs next₀ i₀ out next i = n - i
 
 loop-holds : tie.Need-loop-holds Inv-loop μ-loop
-loop-holds c = (lines-none _ _ _, omega arith, omega arith, lead-first, refl)
+loop-holds c = (lines-none _ _ _, round-none _ _, omega arith, omega arith, c .lead-of .ensures, refl)
 
-mul-stamp-at : tie.Need-mul-stamp-at Inv-loop μ-loop
-mul-stamp-at c = omega arith
+mul-at : tie.Need-mul-at Inv-loop μ-loop
+mul-at c = omega arith
 
-add-stamp-at : tie.Need-add-stamp-at Inv-loop μ-loop
-add-stamp-at c = omega arith
+add-end : tie.Need-add-end Inv-loop μ-loop
+add-end c = omega arith
 
-stamp-at-requires : tie.Need-stamp-at-requires Inv-loop μ-loop
-stamp-at-requires c κs = omega arith
+sub-entry-at : tie.Need-sub-entry-at Inv-loop μ-loop
+sub-entry-at c = omega arith
 
-renewed-requires : tie.Need-renewed-requires Inv-loop μ-loop
-renewed-requires c κs = (c .before .before .loop .inv .3, omega arith)
+part-entry-at-start : tie.Need-part-entry-at-start Inv-loop μ-loop
+part-entry-at-start c = omega arith
 
-mul-pins-at : tie.Need-mul-pins-at Inv-loop μ-loop
-mul-pins-at c = omega arith
+part-entry-at-end : tie.Need-part-entry-at-end Inv-loop μ-loop
+part-entry-at-end c = omega arith
 
-add-pins-at : tie.Need-add-pins-at Inv-loop μ-loop
-add-pins-at c = omega arith
-
-pins-at-requires : tie.Need-pins-at-requires Inv-loop μ-loop
-pins-at-requires c κs = omega arith
+entry-at-requires : tie.Need-entry-at-requires Inv-loop μ-loop
+entry-at-requires c κs = search needs
 
 put-entry-requires : tie.Need-put-entry-requires Inv-loop μ-loop
+unfolding onward
 put-entry-requires c κs =
     let w = c .before .before .before .before .before .loop .inv in
-    (omega (arith, w .2, w .4), c .before .before .renewed .ensures .0, c .before .before .renewed .ensures .1)
+    (omega (arith, w .3, w .5), w .4, pairs-good _ refl)
 
 add-i : tie.Need-add-i Inv-loop μ-loop
 add-i c = omega arith
@@ -57,24 +56,24 @@ loop-less c = omega arith
 
 loop-again : tie.Need-loop-again Inv-loop μ-loop
 loop-again c =
-    let w = c .before .before .before .before .before .before .before .before .loop .inv in
-    let e = c .before .before .put-entry .ensures in (
-      lines-next _ _ _ _ _ (c .before .before .before .before .before .before .stamp-at .ensures) (c .before .before .before .before .pins-at .ensures) (w .0) (e .0),
-      omega arith,
-      omega (arith, e .1, w .2),
-      c .before .before .before .before .before .renewed .ensures .0,
-      omega (arith, w .4),
-    )
+    let f = c .before .before .before .before .before in
+    let l = f .before .before .before .loop in
+    let a = f .before .before .before .before .before .before .before .before .before .before .args in
+    let w = l .inv in
+    let x = c .before .before .put-entry .ensures in
+    let ten : 10 * l .i + 10 - 10 * l .i ≡ 10 = omega arith in
+    let more = lines-next (l .i) (a .counter) (a .bytes .now) (f .entry-at .result) (rw ten at (f .entry-at .ensures)) (omega arith) (w .0) (w .1) x in
+    (more .0, more .1, omega arith, omega (arith, x .small, w .3), x .lead, omega (arith, w .5))
 
 same-length : tie.Need-same-length Inv-loop μ-loop
-same-length c = c .before .loop .inv .4
+same-length c = c .before .loop .inv .5
 
 returns : tie.Need-returns Inv-loop μ-loop
 returns c =
     let w = c .before .loop .inv in
-    let a = c .before .before .before .before .before .before .before .before .before .args in
-    let e : c .before .loop .i ≡ lineCount (a .count) (length (a .bytes .now)) (length (a .out .now)) = omega (arith, w .1) in
-    rw e at (lined (w .4) (w .0))
+    let a = c .before .before .before .before .before .before .before .before .args in
+    let e : c .before .loop .i ≡ lineCount (a .count) (length (a .bytes .now)) (length (a .out .now)) = omega (arith, w .2) in
+    rw e at (lined (w .5) (w .0))
 
 pub entry-lines-spec : {M : Type 1} → statement M
 entry-lines-spec =
@@ -85,14 +84,14 @@ entry-lines-spec =
     (λ c κs. search needs)
     (λ c κs. search needs)
     (λ c κs. search needs)
+    (λ c κs. search needs)
     loop-holds
-    mul-stamp-at
-    add-stamp-at
-    stamp-at-requires
-    renewed-requires
-    mul-pins-at
-    add-pins-at
-    pins-at-requires
+    mul-at
+    add-end
+    sub-entry-at
+    part-entry-at-start
+    part-entry-at-end
+    entry-at-requires
     put-entry-requires
     add-i
     loop-less

@@ -1,8 +1,7 @@
-use mathlib.Core.Path.{refl}
 use native.Mathlib.Omega.{arith}
+use borrow.Author.Needs.{needs}
 use Rattle.lines.proofs.Decimals.{short}
 use Rattle.lines.proofs.Leading.{lead-put}
-use borrow.Author.Needs.{needs}
 use Rattle.lines.proofs.stamps.lead_of.Statement.{statement}
 use Rattle.lines.proofs.stamps.lead_of.Tie as tie
 
@@ -10,7 +9,9 @@ put-number-requires : tie.Need-put-number-requires
 put-number-requires c κs = omega (arith, short 5 (c .before .before .before .args .number) (omega arith))
 
 returns : tie.Need-returns
-returns c = (lead-put _ _ _ _ (c .before .before .before .before .before .pre) (c .before .put-number .kept .0) (c .before .put-number .ensures), refl)
+returns c =
+    let p = c .before .before .before .before .before .pre in
+    lead-put _ _ _ _ (p .0) (p .1) (c .before .put-number .kept .0) (c .before .put-number .ensures)
 
 pub lead-of-spec : {M : Type 1} → statement M
-lead-of-spec = tie.close (tie.spec (λ c. search needs) put-number-requires returns)
+lead-of-spec = tie.close (tie.spec (λ c. search needs) put-number-requires (λ c. search needs) returns)

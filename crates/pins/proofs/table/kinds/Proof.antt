@@ -2,8 +2,7 @@
 use mathlib.Core.Path.{refl}
 use Rattle.rules.specs.Bits.{bits, on}
 use Rattle.rules.specs.Commands.{code}
-use Rattle.rules.specs.Pins.{byLevels, kindAt}
-use Rattle.pins.specs.Table.{codesFrom, kindCodes}
+use Rattle.rules.specs.Pins.{byLevels, kindAt, codesFrom, kindCodes}
 use Rattle.pins.proofs.table.kinds.Statement.{statement}
 use Rattle.pins.proofs.table.kinds.Tie as tie
 

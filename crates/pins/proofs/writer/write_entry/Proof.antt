@@ -19,21 +19,18 @@ returns-2 c = no-room _ _ _ (sym (c .before .before .takes .ensures) ∙ search 
 pins-of-requires : tie.Need-pins-of-requires
 pins-of-requires c κs = search needs
 
-entry-of-requires : tie.Need-entry-of-requires
-entry-of-requires c κs = search needs
-
-put-requires : tie.Need-put-requires
-put-requires c κs = search needs
+put-entry-requires : tie.Need-put-entry-requires
+put-entry-requires c κs = search needs
 
 same-length : tie.Need-same-length
 same-length c = search needs
 
 returns-3 : tie.Need-returns-3
 returns-3 c =
-    let d = c .before .before .before .before in
+    let d = c .before .before .before in
     let t = d .before .before .before in
     done _ _ _ _ (sym (t .before .takes .ensures) ∙ search not-false) (omega arith)
-    (c .before .before .put .ensures ∙ rw (d .entry-of .ensures, d .before .pins-of .ensures))
+    (c .before .before .put-entry .ensures ∙ rw (d .pins-of .ensures))
 
 pub write-entry-spec : {M : Type 1} → statement M
 write-entry-spec =
@@ -43,7 +40,6 @@ write-entry-spec =
     returns
     returns-2
     pins-of-requires
-    entry-of-requires
-    put-requires
+    put-entry-requires
     same-length
     returns-3)

@@ -1,7 +1,7 @@
 -- The ledger's own answer, parted by its cycle.
 use mathlib.Core.Path.{refl}
 use borrow.Author.Needs.{needs}
-use Rattle.step.proofs.Cycles.{account-so}
+use Rattle.step.proofs.Elevens.{account-so}
 use Rattle.step.proofs.account.account_at.Statement.{statement}
 use Rattle.step.proofs.account.account_at.Tie as tie
 

@@ -5,7 +5,7 @@ use borrow.Author.Needs.{needs}
 use Rattle.rules.specs.Commands.{code, is, kindOf, carries, bare, REFPB, REFAB}
 use Rattle.rules.specs.Past.{isCounted}
 use Rattle.pins.specs.Values.{commandOf}
-use Rattle.bank.proofs.Unlisted.{unlisted}
+use Rattle.pins.proofs.Unlisted.{unlisted}
 use Rattle.step.proofs.account.counts.Statement.{statement}
 use Rattle.step.proofs.account.counts.Tie as tie
 

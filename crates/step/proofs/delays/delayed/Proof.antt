@@ -1,17 +1,16 @@
 -- The rule that is broken first, by its promise.
 use borrow.Author.Needs.{needs}
-use Rattle.rules.specs.Checks.{named}
-use Rattle.bounds.specs.Values.{brokenOf}
+use Rattle.bounds.specs.Values as bounds
 use Rattle.step.specs.Values.{refusalOf}
 use Rattle.step.proofs.delays.delayed.Statement.{statement}
 use Rattle.step.proofs.delays.delayed.Tie as tie
 
 returns : tie.Need-returns
-unfolding refusalOf named brokenOf
+unfolding refusalOf bounds.refusalOf
 returns c = rw (← c .before .before .first-broken .ensures, c .enum-told .given .1)
 
 returns-2 : tie.Need-returns-2
-unfolding refusalOf named brokenOf
+unfolding refusalOf bounds.refusalOf
 returns-2 c = rw (← c .before .before .before .first-broken .ensures, c .before .rule .given .1)
 
 pub delayed-spec : {M : Type 1} → statement M

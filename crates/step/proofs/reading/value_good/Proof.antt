@@ -6,7 +6,7 @@ use Rattle.rules.specs.Commands.{code, is, kindOf, carries, bare, MRW}
 use Rattle.rules.specs.Checks.{valueGood}
 use Rattle.card.specs.Values.{cardOf}
 use Rattle.pins.specs.Values.{commandOf}
-use Rattle.bank.proofs.Unlisted.{unlisted}
+use Rattle.pins.proofs.Unlisted.{unlisted}
 use Rattle.step.proofs.reading.value_good.Statement.{statement}
 use Rattle.step.proofs.reading.value_good.Tie as tie
 
@@ -18,7 +18,7 @@ returns c =
 
 returns-2 : tie.Need-returns-2
 unfolding valueGood is code kindOf carries bare commandOf cardOf
-returns-2 c = rw (c .before .before .command .given .1) (c .may-write .ensures)
+returns-2 c = rw (c .before .before .command .given .1) (c .mrw-value-good .ensures)
 
 pub value-good-spec : {M : Type 1} → statement M
 value-good-spec = tie.close (tie.spec (λ c. search needs) returns (λ c κs. search needs) returns-2)

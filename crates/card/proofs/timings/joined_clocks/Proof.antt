@@ -1,0 +1,27 @@
+use mathlib.Core.Path.{_∙_}
+use borrow.Author.Needs.{needs}
+use Rattle.rules.specs.Units.{rowCycle}
+use Rattle.card.specs.Values.{cardOf}
+use Rattle.card.proofs.timings.joined_clocks.Statement.{statement}
+use Rattle.card.proofs.timings.joined_clocks.Tie as tie
+
+returns : tie.Need-returns
+unfolding rowCycle cardOf
+returns c =
+    let s = c .before .before .before .before .before .before in
+    let p = s .timing2 .ensures in
+    let r = s .before .timing .ensures in
+    c .least-clocks .ensures
+    ∙ rw (r .duration-is, r .floor-is, p .duration-is, p .floor-is, c .before .picoseconds .ensures .0)
+
+pub joined-clocks-spec : {M : Type 1} → statement M
+joined-clocks-spec =
+    tie.close
+    (tie.spec
+    (λ c κs. search needs)
+    (λ c κs. search needs)
+    (λ c. search needs)
+    (λ c. search needs)
+    (λ c κs. search needs)
+    (λ c κs. search needs)
+    returns)

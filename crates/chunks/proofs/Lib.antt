@@ -1,0 +1,16 @@
+-- Laws of one field, of the lines of entries, of a run of bytes, of many entries at once; and that every promise determines its answer.
+pub mod Turns
+pub mod Fronts
+pub mod Sizes
+pub mod Entries
+pub mod Taking
+pub mod Advances
+pub mod Walks
+pub mod Leads
+pub mod Lining
+pub mod Hearing
+pub mod Bytes
+pub mod Wraps
+pub mod Short
+pub mod Ranging
+pub mod Promises

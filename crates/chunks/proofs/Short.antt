@@ -1,0 +1,41 @@
+-- The line of an entry is short.
+use Prim.Native.Nat.{ℕ, _^_, _≤_, _<_}
+use mathlib.Core.Bool.{Bool, true, false, cond}
+use mathlib.Core.List.{[], _∷_}
+use native.Mathlib.Omega.{arith}
+use lib.ListN.{length, length-append}
+use Rattle.rules.specs.Commands.{Kind, NOP, MRW, MRR, REFPB, REFAB, ACT, RD, WR, PRE, PREA, RESERVED, kindOf, apOf}
+use Rattle.rules.specs.Past.{Taken, bankAt}
+use Rattle.rules.specs.Lines.{decimal, nameOf, showsBank, entryLine}
+use Rattle.lines.proofs.Decimals.{short}
+
+name-short : (k : Kind) (ap : Bool) → length (nameOf k ap) ≤ 5
+unfolding nameOf
+name-short NOP ap = omega arith
+name-short MRW ap = omega arith
+name-short MRR ap = omega arith
+name-short REFPB ap = omega arith
+name-short REFAB ap = omega arith
+name-short ACT ap = omega arith
+name-short RD true = omega arith
+name-short RD false = omega arith
+name-short WR true = omega arith
+name-short WR false = omega arith
+name-short PRE ap = omega arith
+name-short PREA ap = omega arith
+name-short RESERVED ap = omega arith
+
+bank-short : (b : Bool) (x : ℕ) → x ≤ 7 → length (cond b (decimal x) (45 ∷ [])) ≤ 1
+bank-short true x h = short 0 x (omega arith)
+bank-short false x h = omega arith
+
+pub entry-short : (e : Taken) (n : ℕ) → e .stamp < 2 ^ 32 → bankAt (e .cmd) n ≤ 7 → length (entryLine e n) ≤ 24
+unfolding entryLine
+entry-short e n h b =
+    simp length-append
+    (omega (
+      arith,
+      short 9 (e .stamp) (omega arith),
+      name-short (kindOf (e .cmd)) (apOf (e .cmd)),
+      bank-short (showsBank (kindOf (e .cmd))) (bankAt (e .cmd) n) b,
+    ))

@@ -1,0 +1,115 @@
+-- What one field makes of a state. The tests of a field are those of the rules (`Form.headOf`), those of its value the card's (`readRefusal`), the checks of an
+-- entry and of an end those of a lent record (`stepRefusal`, `closeRefusal`).
+use Prim.Native.Nat.{ℕ, zero, suc, _+_, _%_, _^_}
+use mathlib.Core.Bool.{cond}
+use mathlib.Core.List.{List, [], _∷_}
+use mathlib.Core.Option.{Option, none, some}
+use lib.Dec.{leb, eqb}
+use Rattle.rules.specs.Checks.{Refusal}
+use Rattle.rules.specs.Form.{Field, sizeOf, number, timingOf, Head, whole, cut, badTag, badLength, headOf, entryOf, endOf}
+use Rattle.rules.specs.Lent.{stepRefusal, closeRefusal, moved}
+use Rattle.card.specs.Values.{cardOf}
+use Rattle.card.specs.Reading.{put, readRefusal}
+use Rattle.ledger.specs.declared.Ledger.{Ledger}
+use Rattle.ledger.specs.Values.{ledgerOf, codeOf}
+use Rattle.bank.specs.declared.Record.{Record}
+use Rattle.bank.specs.Values.{lentOf, freshOf}
+use Rattle.step.specs.Values.{recordWith}
+use Rattle.step.specs.Runs.{commandsBy, refreshesBy}
+use Rattle.chunks.specs.declared.State.{State}
+use Rattle.chunks.specs.declared.Verdict.the-variants.{Refused}
+use Rattle.chunks.specs.declared.fields.Move.{Move}
+use Rattle.chunks.specs.declared.fields.Move.the-variants.{On, Wait, End}
+use Rattle.chunks.specs.declared.fields.Took.{Took}
+
+abbrev pub tookAs : Move → State → Took
+tookAs m st = record { how = m; state = st }
+
+-- in 64 bits; no run from a fresh state comes to them (`judge`, proofs/Near)
+unfoldable pub wrapped : ℕ → ℕ
+wrapped x = x % 2 ^ 64
+
+-- a refusal here leaves the state as it was
+unfoldable pub refusedHere : State → Refusal → Took
+refusedHere st x = tookAs (End (Refused (x .number) (x .rule) (st .offset) (x .cycle))) st
+
+unfoldable pub refusedBy : ℕ → State → Took
+refusedBy k st = tookAs (End (Refused k 0 (st .offset) 0)) st
+
+-- ---- a card's field
+unfoldable pub cardAfter : State → Field → State
+cardAfter st f = record {
+  read = st .read + 1;
+  rec = freshOf (put (st .rec .card) (f .tag) (number (f .value)) (timingOf (f .value)));
+  commands = st .commands;
+  refreshes = st .refreshes;
+  offset = wrapped (st .offset + sizeOf f);
+}
+
+unfoldable pub cardTook : State → Field → Took
+cardTook st f = elim (readRefusal (st .rec .card) (f .tag) (f .value)) [ none ↦ tookAs (On (sizeOf f)) (cardAfter st f) | some x ↦ refusedHere st x ]
+
+-- ---- an entry
+unfoldable pub entryAfter : State → Field → State
+entryAfter st f = record {
+  read = st .read;
+  rec = recordWith (st .rec) (entryOf f);
+  commands = wrapped (st .commands + commandsBy (st .rec) (entryOf f));
+  refreshes = wrapped (st .refreshes + refreshesBy (st .rec) (entryOf f));
+  offset = wrapped (st .offset + sizeOf f);
+}
+
+unfoldable pub entryRefused : State → Field → Option Refusal
+entryRefused st f = stepRefusal (lentOf (st .rec)) (entryOf f)
+
+unfoldable pub entryTook : State → Field → Took
+entryTook st f = elim (entryRefused st f) [ none ↦ tookAs (On (sizeOf f)) (entryAfter st f) | some x ↦ refusedHere st x ]
+
+-- ---- the end: the record's ledger then stands at E
+unfoldable pub recordClosed : Record → Ledger → Record
+recordClosed rec g = record {
+  card = rec .card;
+  mr2 = rec .mr2;
+  counter = rec .counter;
+  last = rec .last;
+  latest = rec .latest;
+  bus = rec .bus;
+  four = rec .four;
+  banks = rec .banks;
+  ledger = g;
+}
+
+unfoldable pub endAfter : State → Field → State
+endAfter st f = record {
+  read = 19;
+  rec = recordClosed (st .rec) (codeOf (moved (cardOf (st .rec .card)) (ledgerOf (st .rec .ledger)) (endOf f)));
+  commands = st .commands;
+  refreshes = st .refreshes;
+  offset = wrapped (st .offset + sizeOf f);
+}
+
+unfoldable pub endTook : State → Field → Took
+endTook st f = elim (closeRefusal (lentOf (st .rec)) (endOf f)) [ none ↦ tookAs (On (sizeOf f)) (endAfter st f) | some x ↦ refusedHere st x ]
+
+-- ---- any field
+unfoldable pub fieldTook : State → Field → Took
+fieldTook st f = cond (eqb (f .tag) 32) (entryTook st f) (cond (eqb (f .tag) 33) (endTook st f) (cardTook st f))
+
+unfoldable pub headTook : State → Head → Took
+headTook st cut = tookAs Wait st
+headTook st badTag = refusedBy 2 st
+headTook st badLength = refusedBy 3 st
+headTook st (whole f rest) = fieldTook st f
+
+-- behind the end field any byte is 12
+unfoldable pub behindTook : State → List ℕ → Took
+behindTook st [] = tookAs Wait st
+behindTook st (b ∷ bs) = refusedBy 12 st
+
+-- so many fields of the card, for the tests of a tag: nothing else of them is looked at
+unfoldable pub asRead : ℕ → List Field
+asRead zero = []
+asRead (suc n) = record { tag = suc n; high = 0; low = 0; value = [] } ∷ asRead n
+
+unfoldable pub tookOf : State → List ℕ → Took
+tookOf st bs = cond (leb 19 (st .read)) (behindTook st bs) (headTook st (headOf (asRead (st .read)) bs))

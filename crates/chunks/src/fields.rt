@@ -1,0 +1,165 @@
+// One field at a time.
+ghost use mathlib.Core.Path.{_≡_};
+ghost use mathlib.Core.Bool.{true};
+ghost use Prim.Native.Nat.{_+_, _-_, _≤_};
+ghost use lib.ListN.{length, getD};
+ghost use Rattle.rules.specs.Form as form;
+ghost use Rattle.chunks.specs.Took as took;
+ghost use Rattle.chunks.specs.Parts.{fieldIn, NotTaken, endOn, NoneHere};
+use crate::State;
+use crate::Verdict;
+use crate::heads;
+use crate::heads::Head;
+use crate::told;
+use ledger::Ledger;
+
+// What the bytes at a place are: a whole field of so many bytes, one whose rest is not there yet, or the end of the judging.
+pub enum Move {
+    On(usize),
+    Wait,
+    End(Verdict),
+}
+
+pub struct Took {
+    pub how: Move,
+    pub state: State,
+}
+
+// So many bytes further on. The sum goes round at 2^64.
+fn further(offset: u64, size: usize) -> u64
+    ensures { λ r. ⌜ r ≡ took.wrapped (offset + size) ⌝ }
+{
+    std::num::wrapping_add_u64(offset, size as u64)
+}
+
+fn refused(state: State, number: u8, rule: u8, cycle: u64) -> Took
+    ensures { λ r. ⌜ r ≡ took.tookAs (Move.End (Verdict.Refused number rule (state .offset) cycle)) state ⌝ }
+{
+    Took {
+        how: Move::End(Verdict::Refused {
+            number: number,
+            rule: rule,
+            offset: state.offset,
+            cycle: cycle,
+        }),
+        state: state,
+    }
+}
+
+fn take_card(state: State, bytes: &[u8]) -> Took
+    requires { ⌜ (state .read ≤ 18) × (3 ≤ length (now bytes)) ⌝ }
+    ensures { λ r. ⌜ r ≡ took.cardTook state (fieldIn (now (bytes .entry))) ⌝ }
+{
+    let rec = state.rec;
+    let tag = bytes[0];
+    let size = bytes.len();
+    let value = card::read_value(rec.card, tag, &bytes[3..]);
+    let refusal = value.refusal;
+    if refusal != 0 {
+        return refused(state, refusal, 0, 0);
+    }
+    Took {
+        how: Move::On(size),
+        state: State {
+            read: state.read + 1,
+            rec: bank::fresh_record(value.card),
+            commands: state.commands,
+            refreshes: state.refreshes,
+            offset: further(state.offset, size),
+        },
+    }
+}
+
+// An entry that is not taken.
+fn take_entry(state: State, bytes: &[u8]) -> Took
+    requires { ⌜ NotTaken (state .rec) (now bytes) ⌝ }
+    ensures { λ r. ⌜ r ≡ took.entryTook state (fieldIn (now (bytes .entry))) ⌝ }
+{
+    let front = pins::entry_at(bytes, 0);
+    let stepped = step::step(state.rec, front.stamp, front.pins);
+    let answer = stepped.answer;
+    let told = told::of_step(answer);
+    refused(state, told.0, told.1, told.2)
+}
+
+// The state behind the end: the record's ledger then stands at E.
+fn end_on(state: State, ledger: Ledger) -> State
+    ensures { λ r. ⌜ r ≡ endOn state ledger ⌝ }
+{
+    let mut rec = state.rec;
+    rec.ledger = ledger;
+    State {
+        read: 19,
+        rec: rec,
+        commands: state.commands,
+        refreshes: state.refreshes,
+        offset: further(state.offset, 7),
+    }
+}
+
+fn take_end(state: State, bytes: &[u8]) -> Took
+    requires { ⌜ length (now bytes) ≡ 7 ⌝ }
+    ensures { λ r. ⌜ r ≡ took.endTook state (fieldIn (now (bytes .entry))) ⌝ }
+{
+    let after = bank::close(state.rec, pins::stamp_at(bytes, 3));
+    let answer = after.answer;
+    let ledger = after.ledger;
+    let told = told::of_ledger(answer);
+    if told.0 != 0 {
+        return refused(state, told.0, told.1, told.2);
+    }
+    Took {
+        how: Move::On(7),
+        state: end_on(state, ledger),
+    }
+}
+
+// A field that is whole, and no entry that is taken.
+fn take_whole(state: State, bytes: &[u8]) -> Took
+    requires { ⌜ (state .read ≤ 18) × (3 ≤ length (now bytes)) ⌝ }
+    requires { ⌜ form.lengthGood (getD (now bytes) 0 0) (length (now bytes) - 3) ≡ true ⌝ }
+    requires { ⌜ (getD (now bytes) 0 0 ≡ 32 → NotTaken (state .rec) (now bytes)) ⌝ }
+    ensures { λ r. ⌜ r ≡ took.fieldTook state (fieldIn (now (bytes .entry))) ⌝ }
+{
+    let tag = bytes[0];
+    if tag == 32 {
+        return take_entry(state, bytes);
+    }
+    if tag == 33 {
+        return take_end(state, bytes);
+    }
+    take_card(state, bytes)
+}
+
+// Behind the end field.
+fn take_behind(state: State, bytes: &[u8]) -> Took
+    ensures { λ r. ⌜ r ≡ took.behindTook state (now (bytes .entry)) ⌝ }
+{
+    if bytes.len() == 0 {
+        return Took {
+            how: Move::Wait,
+            state: state,
+        };
+    }
+    refused(state, 12, 0, 0)
+}
+
+// The field at the start, where that is no entry that is taken.
+pub fn take_field(state: State, bytes: &[u8]) -> Took
+    requires { ⌜ NoneHere state (now bytes) ⌝ }
+    ensures { λ r. ⌜ r ≡ took.tookOf state (now (bytes .entry)) ⌝ }
+{
+    let read = state.read;
+    if 18 < read {
+        return take_behind(state, bytes);
+    }
+    match heads::head_of(read, bytes) {
+        Head::Whole(n) => take_whole(state, &bytes[..n]),
+        Head::Cut => Took {
+            how: Move::Wait,
+            state: state,
+        },
+        Head::BadTag => refused(state, 2, 0, 0),
+        Head::BadLength => refused(state, 3, 0, 0),
+    }
+}

@@ -1,0 +1,63 @@
+// The head of what is left: tag, length, cut.
+ghost use mathlib.Core.Path.{_≡_};
+ghost use Prim.Native.Nat.{_+_, _*_, _≤_, _<_};
+ghost use lib.ListN.{length, getD};
+ghost use Rattle.rules.specs.Form as form;
+ghost use Rattle.chunks.specs.Took.{asRead};
+ghost use Rattle.chunks.specs.Parts.{headAs};
+
+// A whole field of so many bytes, one whose rest is not there yet, or a refusal.
+pub enum Head {
+    Whole(usize),
+    Cut,
+    BadTag,
+    BadLength,
+}
+
+fn may_come(read: u8, tag: u8) -> bool
+    requires { ⌜ read ≤ 18 ⌝ }
+    ensures { λ r. ⌜ r ≡ form.mayCome (asRead read) tag ⌝ }
+{
+    if read == 18 {
+        return (tag == 32) | (tag == 33);
+    }
+    tag == read + 1
+}
+
+fn wide(x: u8) -> usize
+    ensures { λ r. ⌜ (r ≡ x) × (r < 256) ⌝ }
+{
+    x as usize
+}
+
+// The two bytes behind the tag.
+fn size_in(bytes: &[u8]) -> usize
+    requires { ⌜ 3 ≤ length (now bytes) ⌝ }
+    ensures { λ r. ⌜ (r ≡ 256 * getD (now (bytes .entry)) 1 0 + getD (now (bytes .entry)) 2 0) × (r < 65536) ⌝ }
+{
+    256 * wide(bytes[1]) + wide(bytes[2])
+}
+
+pub fn head_of(read: u8, bytes: &[u8]) -> Head
+    requires { ⌜ read ≤ 18 ⌝ }
+    ensures { λ r. ⌜ r ≡ headAs (form.headOf (asRead read) (now (bytes .entry))) ⌝ }
+{
+    if bytes.len() == 0 {
+        return Head::Cut;
+    }
+    let tag = bytes[0];
+    if !may_come(read, tag) {
+        return Head::BadTag;
+    }
+    if bytes.len() < 3 {
+        return Head::Cut;
+    }
+    let size = size_in(bytes);
+    if !card::length_good(tag, size) {
+        return Head::BadLength;
+    }
+    if bytes.len() - 3 < size {
+        return Head::Cut;
+    }
+    Head::Whole(3 + size)
+}

@@ -1,0 +1,75 @@
+-- The arrays of a record have their lengths: those of a fresh record, and after an entry.
+use Prim.Native.Nat.{ℕ}
+use mathlib.Core.Path.{_≡_, refl, _∙_}
+use mathlib.Core.Bool.{Bool, true, false, cond}
+use mathlib.Core.List.{List}
+use lib.ListN.{length, set, replicate, length-set}
+use Rattle.rules.specs.Commands.{Command, ACT, PREA, is, bankOf}
+use Rattle.card.specs.declared.Card.{Card}
+use Rattle.ledger.specs.declared.Ledger.{Ledger}
+use Rattle.bank.specs.declared.Each.{Each}
+use Rattle.bank.specs.declared.NotedEach.{NotedEach}
+use Rattle.bank.specs.declared.Record.{Record}
+use Rattle.bank.specs.Values.{neverEach, neverNotedEach, freshOf}
+use Rattle.bank.specs.After.{eachIf, notedEachIf, shuts, openedAfter, stampedAfter, banksAfter, recordAfter}
+use Rattle.bank.proofs.Sizes.{EachWhole, NotedWhole, Whole}
+
+pub fresh-whole : (card : Card) → Whole (freshOf card)
+unfolding freshOf neverEach neverNotedEach
+fresh-whole card = record {
+  opened = refl;
+  refpb = each;
+  pre = each;
+  act = each;
+  rd = each;
+  rda = each;
+  wr = noted;
+  wra = noted;
+}
+  where
+    each : EachWhole neverEach
+    each = unfold neverEach in record { seen = refl; at = refl }
+
+    noted : NotedWhole neverNotedEach
+    noted = unfold neverNotedEach in record { seen = refl; at = refl; mr2 = refl }
+
+each-kept : (now : Bool) (k t : ℕ) (x : Each) → EachWhole x → EachWhole (eachIf now k t x)
+unfolding eachIf
+each-kept true k t x w = record { seen = length-set (x .seen) k true ∙ w .seen; at = length-set (x .at) k t ∙ w .at }
+each-kept false k t x w = w
+
+noted-kept : (now : Bool) (k t m : ℕ) (x : NotedEach) → NotedWhole x → NotedWhole (notedEachIf now k t m x)
+unfolding notedEachIf
+noted-kept true k t m x w = record {
+  seen = length-set (x .seen) k true ∙ w .seen;
+  at = length-set (x .at) k t ∙ w .at;
+  mr2 = length-set (x .mr2) k m ∙ w .mr2;
+}
+noted-kept false k t m x w = w
+
+set-if : (b : Bool) (k : ℕ) (v : Bool) (o : List Bool) → length o ≡ 8 → length (cond b (set o k v) o) ≡ 8
+set-if true k v o w = length-set o k v ∙ w
+set-if false k v o w = w
+
+opened-kept : (c : Command) (o : List Bool) → length o ≡ 8 → length (openedAfter c o) ≡ 8
+unfolding openedAfter
+opened-kept c o w =
+    let cleared = cond (is PREA c) (replicate 8 false) o in
+    set-if (is ACT c) (bankOf c) true (cond (shuts c) (set cleared (bankOf c) false) cleared) (set-if (shuts c) (bankOf c) false cleared (go (is PREA c)))
+  where
+    go : (b : Bool) → length (cond b (replicate 8 false) o) ≡ 8
+    go true = refl
+    go false = w
+
+pub after-whole : (r : Record) (c : Command) (t : ℕ) (g : Ledger) → Whole r → Whole (recordAfter r c t g)
+unfolding recordAfter banksAfter stampedAfter
+after-whole r c t g w = record {
+  opened = opened-kept c (r .banks .opened) (w .opened);
+  refpb = each-kept _ _ t (r .banks .refpb) (w .refpb);
+  pre = each-kept _ _ t (r .banks .pre) (w .pre);
+  act = each-kept _ _ t (r .banks .act) (w .act);
+  rd = each-kept _ _ t (r .banks .rd) (w .rd);
+  rda = each-kept _ _ t (r .banks .rda) (w .rda);
+  wr = noted-kept _ _ t _ (r .banks .wr) (w .wr);
+  wra = noted-kept _ _ t _ (r .banks .wra) (w .wra);
+}

@@ -1,0 +1,196 @@
+-- What an entry of each kind changes, in place, is what it changes in the record.
+use Prim.Native.Nat.{ℕ, _≤_, _<_}
+use mathlib.Core.Path.{_≡_, refl, ap, _∙_}
+use mathlib.Core.Bool.{Bool, true, false, cond}
+use native.Mathlib.Nat.{le-trans}
+use lib.ListN.{set}
+use Rattle.rules.specs.Commands as rules
+use Rattle.rules.specs.Commands.{NOP, code, bare, carries, kindOf, bankOf, apOf, is}
+use Rattle.rules.specs.Past.{registerAfter, bankAt, isCounted}
+use Rattle.rules.specs.Units.{interval}
+use Rattle.rules.specs.Pins.{Decoded, good, wrongBits, reserved, decode}
+use Rattle.rules.specs.Entries.{read, commandOf}
+use Rattle.rules.specs.Lent.{viewIn, commandIn, countedIn, ledgerTo, refreshedAt, entered, ledgerWith}
+use Rattle.card.specs.Values.{cardOf}
+use Rattle.pins.specs.Places.{bankOn, apOn}
+use Rattle.ledger.specs.Values.{ledgerOf, codeOf}
+use Rattle.ledger.specs.declared.Ledger.{Ledger}
+use Rattle.ledger.proofs.Deadlines.{reached, reaches, reached-twice}
+use Rattle.bank.specs.Values.{lentOf}
+use Rattle.pins.specs.Counter.{counterOn}
+use Rattle.bank.specs.After.{onceAt, onceIf, notedAt, notedIf, putEach, eachIf, putNoted, notedEachIf, pushedOn, fourAfter, latestAfter, busAfter, shuts, openedAfter, stampedAfter, banksAfter, recordAfter}
+use Rattle.bank.specs.declared.Banks.{Banks}
+use Rattle.bank.specs.declared.Bus.{Bus}
+use Rattle.bank.specs.declared.Four.{Four}
+use Rattle.bank.specs.declared.Record.{Record}
+use Rattle.step.specs.Values.{entryOf, recordWith}
+use Rattle.step.specs.Ready.{Hot, Nop, Act, Rd, Wr, Pre, Cold, hotOf}
+use Rattle.step.specs.Runs.{commandsBy}
+use Rattle.step.specs.Quick.{hotCount, nowOf}
+use Rattle.step.proofs.Levels.{Names, named-so}
+
+-- the parts after an entry of this kind to bank b
+abbrev pub banksThen : Hot → (b : ℕ) → (ap : Bool) → (t m : ℕ) → Banks → Banks
+banksThen Nop b ap t m x = x
+banksThen Act b ap t m x = record {
+  opened = set (x .opened) b true;
+  refpb = x .refpb;
+  pre = x .pre;
+  act = putEach b t (x .act);
+  rd = x .rd;
+  rda = x .rda;
+  wr = x .wr;
+  wra = x .wra;
+}
+banksThen Rd b true t m x = record {
+  opened = set (x .opened) b false;
+  refpb = x .refpb;
+  pre = x .pre;
+  act = x .act;
+  rd = putEach b t (x .rd);
+  rda = putEach b t (x .rda);
+  wr = x .wr;
+  wra = x .wra;
+}
+banksThen Rd b false t m x = record {
+  opened = x .opened;
+  refpb = x .refpb;
+  pre = x .pre;
+  act = x .act;
+  rd = putEach b t (x .rd);
+  rda = x .rda;
+  wr = x .wr;
+  wra = x .wra;
+}
+banksThen Wr b true t m x = record {
+  opened = set (x .opened) b false;
+  refpb = x .refpb;
+  pre = x .pre;
+  act = x .act;
+  rd = x .rd;
+  rda = x .rda;
+  wr = putNoted b t m (x .wr);
+  wra = putNoted b t m (x .wra);
+}
+banksThen Wr b false t m x = record {
+  opened = x .opened;
+  refpb = x .refpb;
+  pre = x .pre;
+  act = x .act;
+  rd = x .rd;
+  rda = x .rda;
+  wr = putNoted b t m (x .wr);
+  wra = x .wra;
+}
+banksThen Pre b ap t m x = record {
+  opened = set (x .opened) b false;
+  refpb = x .refpb;
+  pre = putEach b t (x .pre);
+  act = x .act;
+  rd = x .rd;
+  rda = x .rda;
+  wr = x .wr;
+  wra = x .wra;
+}
+banksThen Cold b ap t m x = x
+
+pub refpb-kept : (h : Hot) (b : ℕ) (ap : Bool) (t m : ℕ) (x : Banks) → banksThen h b ap t m x .refpb ≡ x .refpb
+refpb-kept Nop b ap t m x = refl
+refpb-kept Act b ap t m x = refl
+refpb-kept Rd b true t m x = refl
+refpb-kept Rd b false t m x = refl
+refpb-kept Wr b true t m x = refl
+refpb-kept Wr b false t m x = refl
+refpb-kept Pre b ap t m x = refl
+refpb-kept Cold b ap t m x = refl
+
+abbrev pub busThen : Hot → (t m : ℕ) → Bus → Bus
+busThen Nop t m x = x
+busThen Act t m x = x
+busThen Rd t m x = record { rd = onceAt t; wr = x .wr; turn = notedAt t m }
+busThen Wr t m x = record { rd = x .rd; wr = notedAt t m; turn = x .turn }
+busThen Pre t m x = x
+busThen Cold t m x = x
+
+abbrev pub fourThen : Hot → (t : ℕ) → Four → Four
+fourThen Nop t x = x
+fourThen Act t x = pushedOn t x
+fourThen Rd t x = x
+fourThen Wr t x = x
+fourThen Pre t x = x
+fourThen Cold t x = x
+
+module _ (rec : Record) (banks : Banks) (bus : Bus) (four : Four) (u t p : ℕ) where
+  abbrev I : ℕ
+  I = interval (cardOf (rec .card))
+
+  -- the record so far
+  abbrev now : Record
+  now = nowOf rec banks bus four u
+
+  -- with the entry
+  abbrev then : Hot → Ledger → Record
+  then h g = record {
+    card = rec .card;
+    mr2 = rec .mr2;
+    counter = rec .counter;
+    last = onceAt t;
+    latest = rec .latest;
+    bus = busThen h t (rec .mr2) bus;
+    four = fourThen h t four;
+    banks = banksThen h (bankOn p) (apOn p) t (rec .mr2) banks;
+    ledger = g;
+  }
+
+  abbrev NotCold : Hot → Type 0
+  NotCold h = h ≡ Cold → ⊥
+
+  after-so : (x : Decoded) → NotCold (hotOf x) → Names p x → (g : Ledger) → recordAfter now (commandOf x) t g ≡ then (hotOf x) g
+  unfolding hotOf Names commandOf recordAfter registerAfter counterOn latestAfter busAfter fourAfter banksAfter stampedAfter openedAfter shuts onceIf notedIf eachIf notedEachIf is code kindOf carries bare bankOf apOf bankAt
+  after-so (good rules.nop) h n g = refl
+  after-so (good (rules.mrw ma op)) h n g = absurd (h refl)
+  after-so (good (rules.mrr ma)) h n g = absurd (h refl)
+  after-so (good rules.refpb) h n g = absurd (h refl)
+  after-so (good rules.refab) h n g = absurd (h refl)
+  after-so (good (rules.act b row)) h n g = rw n
+  after-so (good (rules.rd b k true)) h n g = rw (n .0, ← n .1)
+  after-so (good (rules.rd b k false)) h n g = rw (n .0, ← n .1)
+  after-so (good (rules.wr b k true)) h n g = rw (n .0, ← n .1)
+  after-so (good (rules.wr b k false)) h n g = rw (n .0, ← n .1)
+  after-so (good (rules.pre b)) h n g = rw n
+  after-so (good rules.prea) h n g = absurd (h refl)
+  after-so wrongBits h n g = absurd (h refl)
+  after-so reserved h n g = absurd (h refl)
+
+  -- no hot command is a counted refresh, and NOP alone is not counted as a command
+  plain-so : (x : Decoded) → NotCold (hotOf x) → (isCounted (commandOf x) (rec .counter) ≡ false) × (cond (is NOP (commandOf x)) 0 1 ≡ hotCount (hotOf x))
+  unfolding hotOf hotCount isCounted commandOf is code kindOf carries bare
+  plain-so (good rules.nop) h = (refl, refl)
+  plain-so (good (rules.mrw ma op)) h = absurd (h refl)
+  plain-so (good (rules.mrr ma)) h = absurd (h refl)
+  plain-so (good rules.refpb) h = absurd (h refl)
+  plain-so (good rules.refab) h = absurd (h refl)
+  plain-so (good (rules.act b row)) h = (refl, refl)
+  plain-so (good (rules.rd b k a)) h = (refl, refl)
+  plain-so (good (rules.wr b k a)) h = (refl, refl)
+  plain-so (good (rules.pre b)) h = (refl, refl)
+  plain-so (good rules.prea) h = absurd (h refl)
+  plain-so wrongBits h = absurd (h refl)
+  plain-so reserved h = absurd (h refl)
+
+  module _ (positive : 0 < I) (before : rec .ledger .at ≤ u) (above : u ≤ t) where
+    -- moved on twice
+    ledger-so : codeOf (ledgerTo I (ledgerOf (codeOf (ledgerTo I (ledgerOf (rec .ledger)) u))) t) ≡ codeOf (ledgerTo I (ledgerOf (rec .ledger)) t)
+    ledger-so =
+        let g = rec .ledger in
+        rw (reaches (rec .card) g u positive before, reaches (rec .card) (reached I g u) t positive above, reaches (rec .card) g t positive (le-trans before above))
+        (reached-twice I g u t positive before above)
+
+    pub taken-so : NotCold (hotOf (decode p)) → (recordWith now (entryOf t p) ≡ nowOf rec (banksThen (hotOf (decode p)) (bankOn p) (apOn p) t (rec .mr2) banks)
+        (busThen (hotOf (decode p)) t (rec .mr2) bus) (fourThen (hotOf (decode p)) t four) t) × (commandsBy now (entryOf t p) ≡ hotCount (hotOf (decode p)))
+    unfolding recordWith commandsBy commandIn countedIn ledgerWith entered refreshedAt read viewIn lentOf
+    taken-so h =
+        let q = plain-so (decode p) h in (
+          rw (q .0) (after-so (decode p) h (named-so p _ refl) _ ∙ ap (then (hotOf (decode p))) ledger-so),
+          q .1,
+        )

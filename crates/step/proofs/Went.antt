@@ -1,0 +1,147 @@
+-- An entry of a quick run: it stops there, or goes on from the record after it.
+use Prim.Native.Nat.{ℕ, zero, suc, _+_, _-_, _/_, _≤_, _<_}
+use mathlib.Core.Path.{_≡_, refl, ap, sym, _∙_}
+use mathlib.Core.Bool.{Bool, true, false, cond, not, _&&_}
+use mathlib.Core.List.{List}
+use native.Mathlib.Nat.{le-trans, le-of-lt}
+use native.Mathlib.Omega.{arith}
+use lib.Dec.{ltb}
+use lib.ListN.{length, getD, drop, length-drop}
+use lib.Seq.{drop-drop}
+use borrow.Author.Tests.{ltb-true, eq-eqb, not-true, not-false}
+use Rattle.rules.specs.Pins.{decode}
+use Rattle.rules.specs.Lent.{ledgerTo}
+use Rattle.rules.proofs.Tests.{both-true}
+use Rattle.card.specs.declared.Delays.{Delays}
+use Rattle.pins.specs.Places.{bankOn, apOn}
+use Rattle.pins.specs.declared.Front.{Front}
+use Rattle.pins.specs.Fronts.{frontOf}
+use Rattle.pins.proofs.Fronts.{entry-room}
+use Rattle.ledger.specs.Values.{codeOf, deadlineOf}
+use Rattle.ledger.proofs.Deadlines.{reaches, sound, same-deadline}
+use Rattle.bank.specs.declared.Banks.{Banks}
+use Rattle.bank.specs.declared.Bus.{Bus}
+use Rattle.bank.specs.declared.Four.{Four}
+use Rattle.bank.specs.declared.Record.{Record}
+use Rattle.step.specs.Values.{entryOf, recordWith}
+use Rattle.step.specs.declared.waits.Waits.{Waits}
+use Rattle.step.specs.Ready.{Hot, Nop, Act, Rd, Wr, Pre, Cold, laneOf, waitsOf, hotOf, readyBy, standsOf, readyOf}
+use Rattle.step.specs.Runs.{commandsBy, ran, behind}
+use Rattle.step.specs.Quick.{goesOn, quickOf, hotCount, nowOf, EndArgs}
+use Rattle.step.proofs.Onward.{behind-twice, behind-none}
+use Rattle.step.proofs.Cleared.{not-so}
+use Rattle.step.proofs.Places.{banksThen, busThen, fourThen, refpb-kept, taken-so}
+use Rattle.step.proofs.Begun.{Going}
+
+count-low : (h : Hot) → hotCount h ≤ 1
+unfolding hotCount
+count-low Nop = omega arith
+count-low Act = omega arith
+count-low Rd = omega arith
+count-low Wr = omega arith
+count-low Pre = omega arith
+count-low Cold = omega arith
+
+-- what the code finds of the entry here
+pub record Saw (d : Delays) (rec : Record) (v : List ℕ) (most : ℕ) (banks : Banks) (bus : Bus) (four : Four) (u used nops left : ℕ)
+    (f : Front) (hot : Hot) (b : ℕ) (w : Waits) (end : ℕ) (clear ok : Bool) : Type 0 where
+  pub going : Going d rec v most banks bus four u used nops left
+  pub more : 0 < left
+  pub front : f ≡ frontOf (drop used v)
+  pub kind : hot ≡ hotOf (decode (f .pins))
+  pub bank : b ≡ bankOn (f .pins)
+  pub waits : w ≡ waitsOf d rec
+  pub deadline : end ≡ deadlineOf (rec .card) (rec .ledger)
+  pub ready : clear ≡ readyBy hot (laneOf (nowOf rec banks bus four u) b) w d bus (banks .act .at) (getD (four .at) 3 0) (f .stamp)
+  pub passes : ok ≡ (f .whole && ((ltb u (f .stamp) && ltb (f .stamp) end) && clear))
+
+module _ {d : Delays} {rec : Record} {v : List ℕ} {most : ℕ} {banks : Banks} {bus : Bus} {four : Four} {u used nops left : ℕ}
+    {f : Front} {hot : Hot} {b : ℕ} {w : Waits} {end : ℕ} {clear ok : Bool}
+    (s : Saw d rec v most banks bus four u used nops left f hot b w end clear ok) where
+  abbrev now : Record
+  now = nowOf rec banks bus four u
+
+  abbrev g : Going d rec v most banks bus four u used nops left
+  g = s .going
+
+  stands-now : standsOf now ≡ true
+  unfolding standsOf codeOf ledgerTo
+  stands-now = eq-eqb u u refl
+
+  same-end : deadlineOf (rec .card) (now .ledger) ≡ deadlineOf (rec .card) (rec .ledger)
+  same-end =
+      let good = sound (rec .card) (rec .ledger) u (g .ends .later) (g .ends .early) in
+      rw (reaches (rec .card) (rec .ledger) u (good .positive) (g .ends .later)) (same-deadline (rec .card) (rec .ledger) u (g .ends .later) (g .ends .early))
+
+  goes : goesOn d now f ≡ ok
+  unfolding goesOn readyOf
+  goes =
+      let c : clear ≡ readyBy (hotOf (decode (f .pins))) (laneOf now (bankOn (f .pins))) (waitsOf d now) d bus (banks .act .at) (getD (four .at) 3 0) (f .stamp) =
+      s .ready ∙ rw (s .kind, s .bank, s .waits, g .kept) in
+      rw (stands-now, same-end, s .passes, s .deadline, c)
+
+  from-here : (n : ℕ) → quickOf (suc n) d now (drop used v) ≡
+      cond ok (behind 10 (commandsBy now (entryOf (f .stamp) (f .pins))) 0 (quickOf n d (recordWith now (entryOf (f .stamp) (f .pins))) (drop 10 (drop used v)))) (ran now 0 0 0)
+  unfolding quickOf
+  from-here n = rw (← s .front, goes)
+
+  -- all of them but NOP
+  abbrev commands : ℕ
+  commands = used / 10 - nops
+
+  pub stopped : not ok ≡ true → ran now used commands 0 ≡ quickOf most d rec v
+  stopped n = go left (g .same)
+    where
+      go : (k : ℕ) → quickOf most d rec v ≡ behind used commands 0 (quickOf k d now (drop used v)) → ran now used commands 0 ≡ quickOf most d rec v
+      go zero e = sym (e ∙ (unfold quickOf in behind-none (ran now used commands 0)))
+      go (suc k) e =
+          let h : quickOf (suc k) d now (drop used v) ≡ ran now 0 0 0 = from-here k ∙ rw (not-true ok n) in
+          sym (e ∙ ap (behind used commands 0) h ∙ behind-none (ran now used commands 0))
+
+  module _ (yes : not ok ≡ false) where
+    parts : (f .whole ≡ true) × (ltb u (f .stamp) ≡ true) × (ltb (f .stamp) end ≡ true) × (clear ≡ true)
+    parts =
+        let a = both-true _ _ (sym (s .passes) ∙ not-false ok yes) in
+        let c = both-true _ _ (a .1) in
+        let e = both-true _ _ (c .0) in
+        (a .0, e .0, e .1, c .1)
+
+    pub room : used + 10 ≤ length v
+    room =
+        let r = entry-room (drop used v) (rw (← s .front) (parts .0)) in
+        omega (arith, rw length-drop at r)
+
+    above : u < f .stamp
+    above = ltb-true _ _ (parts .1)
+
+    pub ends-there : EndArgs rec (f .stamp)
+    ends-there = record { later = le-trans (g .ends .later) (le-of-lt above); early = rw (← s .deadline) (ltb-true _ _ (parts .2)) }
+
+    not-cold : hotOf (decode (f .pins)) ≡ Cold → ⊥
+    unfolding readyBy
+    not-cold e = not-so (sym (rw (s .kind, e) at s .ready) ∙ parts .3)
+
+    pub went : (h : Hot) → hot ≡ h → (a : Bool) → apOn (f .pins) ≡ a → (nops′ : ℕ) → nops′ + hotCount h ≡ nops + 1
+        → (banks′ : Banks) → banks′ ≡ banksThen h b a (f .stamp) (rec .mr2) banks
+        → (bus′ : Bus) → bus′ ≡ busThen h (f .stamp) (rec .mr2) bus
+        → (four′ : Four) → four′ ≡ fourThen h (f .stamp) four
+        → Going d rec v most banks′ bus′ four′ (f .stamp) (used + 10) nops′ (left - 1)
+    went h k a l nops′ ks banks′ bs bus′ us four′ rs =
+        let t = f .stamp in
+        let e = entryOf t (f .pins) in
+        let good = sound (rec .card) (rec .ledger) u (g .ends .later) (g .ends .early) in
+        let taken = taken-so rec banks bus four u t (f .pins) (good .positive) (g .ends .later) (le-of-lt above) not-cold in
+        let r : nowOf rec banks′ bus′ four′ t ≡ recordWith now e = rw (bs, us, rs, ← k, ← l, s .kind, s .bank) (sym (taken .0)) in
+        let c : hotCount h ≡ commandsBy now e = rw (← k, s .kind) (sym (taken .1)) in
+        let more-commands : used / 10 - nops + hotCount h ≡ (used + 10) / 10 - nops′ = omega (arith, g .few, ks, count-low h) in
+        let n : left ≡ suc (left - 1) = omega (arith, s .more) in
+        let x = quickOf (left - 1) d (nowOf rec banks′ bus′ four′ t) (drop (used + 10) v) in
+        let y : quickOf left d now (drop used v) ≡ behind 10 (hotCount h) 0 x =
+        ap (λ (k : ℕ). quickOf k d now (drop used v)) n ∙ from-here (left - 1) ∙ rw (not-false ok yes, ← r, ← c, drop-drop 10 used v) in
+        record {
+          same = g .same ∙ ap (behind used commands 0) y ∙ behind-twice used commands 0 10 (hotCount h) 0 x ∙ ap (λ (m : ℕ). behind (used + 10) m 0 x) more-commands;
+          kept = ap (λ (y : Banks). y .refpb) bs ∙ refpb-kept h b a t (rec .mr2) banks ∙ g .kept;
+          ends = ends-there;
+          within = room;
+          few = omega (arith, g .few, ks);
+        }

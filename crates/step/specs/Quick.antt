@@ -1,0 +1,59 @@
+-- The quick run: entries that the quick test clears, as far as it goes; and the words of its parts.
+use Prim.Native.Nat.{ℕ, zero, suc, _≤_, _<_}
+use mathlib.Core.Bool.{Bool, cond, _&&_}
+use mathlib.Core.List.{List}
+use lib.ListN.{drop}
+use Rattle.rules.specs.Units.{interval}
+use Rattle.rules.specs.Lent.{ledgerTo}
+use Rattle.card.specs.Values.{cardOf}
+use Rattle.card.specs.declared.Delays.{Delays}
+use Rattle.pins.specs.declared.Front.{Front}
+use Rattle.pins.specs.Fronts.{frontOf}
+use Rattle.ledger.specs.Values.{ledgerOf, codeOf, deadlineOf}
+use Rattle.bank.specs.After.{onceAt}
+use Rattle.bank.specs.declared.Banks.{Banks}
+use Rattle.bank.specs.declared.Bus.{Bus}
+use Rattle.bank.specs.declared.Four.{Four}
+use Rattle.bank.specs.declared.Record.{Record}
+use Rattle.step.specs.declared.Ran.{Ran}
+use Rattle.step.specs.Values.{recordWith}
+use Rattle.step.specs.Ready.{Hot, Nop, Act, Rd, Wr, Pre, Cold, readyOf}
+use Rattle.step.specs.Runs.{entryAt, commandsBy, ran, behind}
+
+unfoldable pub goesOn : Delays → Record → Front → Bool
+goesOn d rec f = f .whole && readyOf d rec (f .stamp) (f .pins)
+
+-- at most so many entries, and none from the first on that the quick test does not clear; it clears no refresh
+unfoldable pub quickOf : ℕ → Delays → Record → List ℕ → Ran
+quickOf zero d rec bs = ran rec 0 0 0
+quickOf (suc n) d rec bs =
+    let e = entryAt bs in
+    cond (goesOn d rec (frontOf bs)) (behind 10 (commandsBy rec e) 0 (quickOf n d (recordWith rec e) (drop 10 bs))) (ran rec 0 0 0)
+
+-- NOP is not counted
+unfoldable pub hotCount : Hot → ℕ
+hotCount Nop = 0
+hotCount Act = 1
+hotCount Rd = 1
+hotCount Wr = 1
+hotCount Pre = 1
+hotCount Cold = 1
+
+-- the record with these parts, at the last entry that was taken
+abbrev pub nowOf : Record → Banks → Bus → Four → (last : ℕ) → Record
+nowOf rec banks bus four t = record {
+  card = rec .card;
+  mr2 = rec .mr2;
+  counter = rec .counter;
+  last = onceAt t;
+  latest = rec .latest;
+  bus = bus;
+  four = four;
+  banks = banks;
+  ledger = codeOf (ledgerTo (interval (cardOf (rec .card))) (ledgerOf (rec .ledger)) t);
+}
+
+-- the last entry is one that the ledger reaches
+pub record EndArgs (rec : Record) (t : ℕ) : Type 0 where
+  pub later : rec .ledger .at ≤ t
+  pub early : t < deadlineOf (rec .card) (rec .ledger)

@@ -1,0 +1,208 @@
+// The quick run: entries over one record, whose parts are changed in place.
+ghost use mathlib.Core.Path.{_≡_};
+ghost use mathlib.Core.Bool.{_&&_};
+ghost use Prim.Native.Nat.{_-_, _/_, _≤_};
+ghost use lib.Dec.{ltb};
+ghost use Rattle.step.specs.Ready.{standsOf};
+ghost use Rattle.step.specs.Runs.{ran};
+ghost use Rattle.step.specs.Quick.{quickOf, nowOf, EndArgs};
+use crate::Ran;
+use crate::cycles::Lane;
+use crate::cycles::ready;
+use crate::kinds::ap_on;
+use crate::kinds::bank_on;
+use crate::kinds::kind_on;
+use crate::waits::waits_of;
+use bank::Banks;
+use bank::Bus;
+use bank::Four;
+use bank::Noted;
+use bank::Once;
+use bank::Record;
+use card::Delays;
+use pins::Front;
+
+// Whether it may begin: the ledger stands at the last entry, and before its deadline.
+fn stands(rec: Record, end: u64) -> bool
+    ensures { λ r. ⌜ r ≡ (standsOf rec && ltb (rec .last .at) end) ⌝ }
+{
+    rec.last.seen & (rec.ledger.at == rec.last.at) & ((rec.last.at as u64) < end)
+}
+
+fn passes(front: Front, last: u32, end: u64, ready: bool) -> bool
+    ensures { λ r. ⌜ r ≡ (front .whole && ((ltb last (front .stamp) && ltb (front .stamp) end) && ready)) ⌝ }
+{
+    front.whole & ((last < front.stamp) & ((front.stamp as u64) < end) & ready)
+}
+
+// The record put together again, its ledger moved on to the last entry.
+fn ended(
+    rec: Record,
+    banks: Banks,
+    bus: Bus,
+    four: Four,
+    last: u32,
+    used: usize,
+    nops: usize,
+) -> Ran
+    requires { ⌜ EndArgs rec last ⌝ }
+    requires { ⌜ nops ≤ used / 10 ⌝ }
+    ensures { λ r. ⌜ r ≡ ran (nowOf rec banks bus four last) used (used / 10 - nops) 0 ⌝ }
+{
+    let card = rec.card;
+    let latest = rec.latest;
+    let moved = ledger::moved(rec.ledger, card, last);
+    let there = moved.ledger;
+    Ran {
+        rec: Record {
+            card: card,
+            mr2: rec.mr2,
+            counter: rec.counter,
+            last: Once {
+                seen: true,
+                at: last,
+            },
+            latest: latest,
+            bus: bus,
+            four: four,
+            banks: banks,
+            ledger: there,
+        },
+        used: used,
+        commands: (used / 10 - nops) as u64,
+        refreshes: 0,
+    }
+}
+
+// At most so many entries, up to the first that the quick test does not clear. The loop changes each part where it lies: a function for a part would copy it.
+pub fn quick_run(rec: Record, delays: Delays, bytes: &[u8], most: usize) -> Ran
+    ensures { λ r. ⌜ r ≡ quickOf most delays rec (now (bytes .entry)) ⌝ }
+{
+    let end = ledger::deadline(rec.ledger, rec.card);
+    if !stands(rec, end) {
+        return Ran {
+            rec: rec,
+            used: 0,
+            commands: 0,
+            refreshes: 0,
+        };
+    }
+    let waits = waits_of(rec, delays);
+    let mr2 = rec.mr2;
+    let banks = rec.banks;
+    let refpb = banks.refpb;
+    let mut opened = banks.opened;
+    let mut pre = banks.pre;
+    let mut act = banks.act;
+    let mut rd = banks.rd;
+    let mut rda = banks.rda;
+    let mut wr = banks.wr;
+    let mut wra = banks.wra;
+    let mut bus = rec.bus;
+    let mut four = rec.four;
+    let mut last = rec.last.at;
+    let mut used: usize = 0;
+    let mut nops: usize = 0;
+    let mut left = most;
+    while 0 < left {
+        // At place 0, which costs no test of the place.
+        let front = pins::entry_at(&bytes[used..], 0);
+        let t = front.stamp;
+        let p = front.pins;
+        let kind = kind_on(p);
+        let b = bank_on(p);
+        let acts = act.at;
+        let stamps = four.at;
+        let lane = Lane {
+            opened: opened[b],
+            refpb: refpb.at[b],
+            pre: pre.at[b],
+            act: act.at[b],
+            rd: rd.at[b],
+            rda: rda.at[b],
+            wr: wr.at[b],
+            wr_mr2: wr.mr2[b],
+            wra: wra.at[b],
+            wra_mr2: wra.mr2[b],
+        };
+        let clear = ready(kind, lane, waits, delays, bus, acts, stamps[3], t);
+        if !passes(front, last, end, clear) {
+            let so_far = Banks {
+                opened: opened,
+                refpb: refpb,
+                pre: pre,
+                act: act,
+                rd: rd,
+                rda: rda,
+                wr: wr,
+                wra: wra,
+            };
+            return ended(rec, so_far, bus, four, last, used, nops);
+        }
+        last = t;
+        used += 10;
+        left -= 1;
+        match kind {
+            0 => {
+                nops += 1;
+            }
+            5 => {
+                four = bank::pushed(four, t);
+                act.at[b] = t;
+                act.seen[b] = true;
+                opened[b] = true;
+            }
+            6 => {
+                let now = Once { seen: true, at: t };
+                let turn = Noted {
+                    seen: true,
+                    at: t,
+                    mr2: mr2,
+                };
+                bus.rd = now;
+                bus.turn = turn;
+                rd.at[b] = t;
+                rd.seen[b] = true;
+                if ap_on(p) {
+                    rda.at[b] = t;
+                    rda.seen[b] = true;
+                    opened[b] = false;
+                }
+            }
+            7 => {
+                let now = Noted {
+                    seen: true,
+                    at: t,
+                    mr2: mr2,
+                };
+                bus.wr = now;
+                wr.at[b] = t;
+                wr.seen[b] = true;
+                wr.mr2[b] = mr2;
+                if ap_on(p) {
+                    wra.at[b] = t;
+                    wra.seen[b] = true;
+                    wra.mr2[b] = mr2;
+                    opened[b] = false;
+                }
+            }
+            8 => {
+                pre.at[b] = t;
+                pre.seen[b] = true;
+                opened[b] = false;
+            }
+            _ => {}
+        }
+    }
+    let all = Banks {
+        opened: opened,
+        refpb: refpb,
+        pre: pre,
+        act: act,
+        rd: rd,
+        rda: rda,
+        wr: wr,
+        wra: wra,
+    };
+    ended(rec, all, bus, four, last, used, nops)
+}
