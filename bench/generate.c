@@ -1,9 +1,9 @@
 /* Writes traces to standard output, the same for the same seed.
-     generate KIND SEED [COUNT]   one trace; KIND is legal, perturbed, hostile or far; about COUNT entries
-                                  (far goes past 200,000 refreshes to the last of the 32-bit cycles);
-                                  a seed divisible by four takes the bench card
-     generate --many N SEED       N traces of mixed kinds, and every cut of some, each behind its length
-                                  (4 bytes, big-endian)
+     generate KIND SEED [COUNT]   one trace; KIND is legal, sleeping (legal, with moves of clock-enable), perturbed,
+                                  hostile or far; about COUNT entries (far goes past 200,000 refreshes to the last
+                                  of the 32-bit cycles); a seed divisible by four takes the bench card
+     generate --many N SEED       N traces of mixed kinds, a third of them with sleeps, and every cut of some, each
+                                  behind its length (4 bytes, big-endian)
      generate --pick K            the K-th trace (from 1) of such a stream on standard input */
 #include "rules.h"
 
@@ -103,6 +103,8 @@ static void put_field(unsigned tag, unsigned length, uint64_t value)
     put(value, length);
 }
 
+static unsigned timings(const struct card *c) { return c->sleeps ? TIMINGS : tCKE; }
+
 static void serialize(void)
 {
     const struct card *c = &trace.card;
@@ -111,7 +113,7 @@ static void serialize(void)
     put_field(2, 1, c->mr2);
     put_field(3, 2, c->r);
     put_field(4, 4, c->refi);
-    for (unsigned i = 0; i < TIMINGS; i++)
+    for (unsigned i = 0; i < timings(c); i++)
         put_field(5 + i, 5, (uint64_t)c->ps[i] << 8 | c->floor[i]);
     for (size_t i = 0; i < trace.n; i++)
         put_field(32, 7, (uint64_t)trace.e[i].stamp << 24 | trace.e[i].pins);
@@ -127,6 +129,17 @@ static const struct card bench_card = {
     .floor = {3, 3, 3, 3, 2, 8, 4, 4, 4, 0, 0, 0, 4, 10},
 };
 
+/* The bench card's tCKE, tXP, tCKESR, tXSR, where it has them. */
+static const uint32_t sleep_ps[] = {7500, 10000, 15000, 140000};
+static const uint8_t sleep_floors[] = {3, 3, 3, 2};
+
+static void add_sleeps(struct card *c)
+{
+    c->sleeps = true;
+    memcpy(c->ps + tCKE, sleep_ps, sizeof sleep_ps);
+    memcpy(c->floor + tCKE, sleep_floors, sizeof sleep_floors);
+}
+
 static uint8_t random_mr2(uint32_t period)
 {
     uint8_t v;
@@ -136,11 +149,13 @@ static uint8_t random_mr2(uint32_t period)
     return v;
 }
 
-static void random_card(struct card *c)
+static void random_card(struct card *c, bool sleeps)
 {
     static const uint32_t periods[] = {938,  939,  1070, 1071, 1072, 1249, 1250,  1251,  1360,  1500,
                                        1670, 1875, 2500, 5999, 6000, 6001, 33333, 99999, 100000};
     *c = bench_card;
+    if (sleeps)
+        add_sleeps(c);
     c->period = one_in(3) ? (uint32_t)between(938, 100000) : one_in(3) ? 1250 : PICK(periods);
     c->mr2 = random_mr2(c->period);
     c->r = (uint16_t)between(1, 16384);
@@ -148,7 +163,7 @@ static void random_card(struct card *c)
     uint64_t refi = interval * c->period + below(c->period);
     c->refi = refi > 20000000 ? 20000000 : (uint32_t)refi;
     unsigned style = (unsigned)below(4);
-    for (unsigned i = 0; i < TIMINGS; i++) {
+    for (unsigned i = 0; i < timings(c); i++) {
         if (style == 0) {
             c->ps[i] = (uint32_t)(c->ps[i] * between(50, 150) / 100);
         } else if (style == 1) {
@@ -165,7 +180,7 @@ static void random_card(struct card *c)
     }
     if (one_in(2))
         c->ps[tFAW] = (uint32_t)(c->ps[tRRD] * between(3, 6));
-    for (unsigned i = 0; i < TIMINGS; i++)
+    for (unsigned i = 0; i < timings(c); i++)
         if (c->ps[i] > 1000000)
             c->ps[i] = 1000000;
 }
@@ -184,10 +199,10 @@ static uint32_t encode(enum kind k, unsigned bank, unsigned ma, unsigned op)
         [WR] = {1, 7 | 1024}, [WRA] = {1 | 1024, 7 | 1024},
         [PRE] = {11, 31},     [PREA] = {27, 31},
     };
-    uint32_t noise = tidy ? 0 : (uint32_t)below(1 << 20);
+    uint32_t other = tidy ? 0 : (uint32_t)below(1 << 20);
     if (k == NOP && one_in(2))
-        return 0x300000 | noise;
-    uint32_t pins = (noise & ~form[k].mask) | form[k].value;
+        return 0x300000 | other;
+    uint32_t pins = (other & ~form[k].mask) | form[k].value;
     if (k == ACT || (k >= RD && k <= PRE))
         pins = (pins & ~0x380u) | bank << 7;
     if (k == MRW || k == MRR)
@@ -218,10 +233,38 @@ static uint32_t stray_pins(uint32_t period)
     return random_pins(k, bank, period);
 }
 
+/* CS_n and the CA bits as they come. */
+static uint32_t noise(uint32_t bits) { return tidy ? 0 : (uint32_t)below(1 << 21) & bits; }
+
+static uint32_t fall_pins(enum level to)
+{
+    if (to == POWER_DOWN)
+        return 0x100000 | noise(0xFFFFF);
+    return noise(0xFFFF8) | (to == SELF_REFRESH ? 4 : 3);
+}
+
+static uint32_t rise_pins(void) { return 0x300000 | noise(0xFFFFF); }
+
 static uint64_t first_permitted(const struct record *r, enum kind k, unsigned bank)
 {
     uint64_t t = r->next, c;
     while (ask(r, k, bank, t, &c))
+        t = c;
+    return t;
+}
+
+static uint64_t first_fall(const struct record *r, enum level to)
+{
+    uint64_t t = r->next, c;
+    while (ask_fall(r, to, t, &c))
+        t = c;
+    return t;
+}
+
+static uint64_t first_rise(const struct record *r)
+{
+    uint64_t t = r->next, c;
+    while (ask_rise(r, t, &c))
         t = c;
     return t;
 }
@@ -238,14 +281,18 @@ static uint64_t reach(const struct record *r)
 /* No way to a REFab is longer than this. */
 #define LONG_WAY 5000
 
-static bool lay(struct record *r, enum kind k, unsigned bank, uint64_t t)
+static bool lay_pins(struct record *r, enum kind k, unsigned bank, uint64_t t, uint32_t pins)
 {
     struct refusal no;
-    uint32_t pins = random_pins(k, bank, r->card.period);
     if (t > UINT32_MAX || !step(r, k, bank, t, pins, &no))
         return false;
     insert(trace.n, (struct entry){(uint32_t)t, pins});
     return true;
+}
+
+static bool lay(struct record *r, enum kind k, unsigned bank, uint64_t t)
+{
+    return lay_pins(r, k, bank, t, random_pins(k, bank, r->card.period));
 }
 
 static bool refresh(struct record *r)
@@ -262,6 +309,80 @@ static bool refresh(struct record *r)
             return false;
     } while (more--);
     return true;
+}
+
+/* Where to fall: as early as may be, on a due or beside it, or just before the account fails. */
+static uint64_t fall_at(const struct record *r, enum level to)
+{
+    uint64_t first = first_fall(r, to), t = first, number = first - r->skipped;
+    if (one_in(4))
+        t += between(1, 3);
+    else if (one_in(4))
+        t += (r->interval - number % r->interval) % r->interval + below(3) - 1;
+    else if (one_in(8))
+        t = r->fail - between(1, 3);
+    return t < first || t >= r->fail ? first : t;
+}
+
+/* Where to rise, once fallen. */
+static uint64_t rise_at(const struct record *r)
+{
+    uint64_t first = first_rise(r), t = first;
+    if (one_in(2))
+        return t;
+    if (one_in(3))
+        t += between(1, 3);
+    else if (one_in(3))
+        t += below(2 * r->interval);
+    else if (r->level == SELF_REFRESH)
+        t += below(one_in(4) ? 1 << 24 : 40 * r->interval);
+    else if (one_in(2))
+        t = r->fail - between(1, 4);
+    return t < first || (r->level == POWER_DOWN && t > r->fail) ? first : t;
+}
+
+/* Whether a refresh can still come in time if it falls and rises there. */
+static bool goes_on(const struct record *r, enum level to, uint64_t fall, uint64_t rise)
+{
+    struct record copy = *r;
+    note_fall(&copy, to, fall);
+    copy.next = fall + 1;
+    note_rise(&copy, rise);
+    copy.next = rise + 1;
+    return rise < copy.fail && reach(&copy) <= copy.fail;
+}
+
+static void lay_asleep(struct record *r, uint64_t before)
+{
+    for (uint64_t n = one_in(2) ? 0 : below(4); n-- && r->next < before;) {
+        uint64_t t = one_in(3) ? before - 1 : one_in(2) ? r->next : between(r->next, before - 1);
+        lay_pins(r, NOP, 0, t, noise(0x1FFFFF));
+    }
+}
+
+/* A sleep; `stays`: it may be the last, or leave no way on. False: nothing can follow. */
+static bool sleep(struct record *r, bool stays)
+{
+    bool careless = stays && one_in(6);
+    enum level to = stays && one_in(20) ? DEEP : one_in(2) ? SELF_REFRESH : POWER_DOWN;
+    if (to != POWER_DOWN && r->open && !lay(r, PREA, 0, first_permitted(r, PREA, 0)))
+        return false;
+    uint64_t fall = fall_at(r, to);
+    struct record copy = *r;
+    note_fall(&copy, to, fall);
+    copy.next = fall + 1;
+    uint64_t rise = to == DEEP ? fall + below(5000) : rise_at(&copy);
+    if (to != DEEP && !careless && !goes_on(r, to, fall, rise)) {
+        rise = first_rise(&copy);
+        if (!goes_on(r, to, fall, rise))
+            return true;
+    }
+    if (!lay_pins(r, NOP, 0, fall, fall_pins(to)))
+        return false;
+    lay_asleep(r, rise);
+    if (to == DEEP || (stays && one_in(12)))
+        return false;
+    return lay_pins(r, NOP, 0, rise, rise_pins());
 }
 
 static unsigned some_bank(unsigned set)
@@ -325,6 +446,16 @@ static void lay_legal(struct record *r, size_t count)
         enum kind k;
         unsigned bank;
         uint64_t t;
+        if (r->card.sleeps && one_in(count > 1000 ? 100 : 6)) {
+            wanted = NOP;
+            bool awake;
+            do
+                awake = sleep(r, count <= 1000);
+            while (awake && one_in(3));
+            if (!awake)
+                break;
+            continue;
+        }
         if (wanted != NOP && !r->open) {
             k = wanted, bank = 0, wanted = NOP;
             t = first_permitted(r, k, bank);
@@ -364,21 +495,24 @@ static void lay_legal(struct record *r, size_t count)
 
 static void choose_end(const struct record *r)
 {
-    uint64_t low = r->next ? r->next - 1 : 0, high = r->fail - 1;
+    uint64_t low = r->next ? r->next - 1 : 0;
+    uint64_t high = uncounted(r->level) ? low + 30 * r->interval : r->fail - 1;
     uint64_t e = one_in(3) ? low : one_in(3) ? high : between(low, high);
     trace.last = e > UINT32_MAX ? UINT32_MAX : (uint32_t)e;
-    trace.fail = r->fail;
+    trace.fail = high + 1;
 }
 
 static struct record record;
 
-static void legal(bool bench, size_t count)
+static void legal(bool bench, bool sleeps, size_t count)
 {
     trace.n = 0;
     tidy = one_in(2);
     trace.card = bench_card;
     if (!bench)
-        random_card(&trace.card);
+        random_card(&trace.card, sleeps);
+    else if (sleeps)
+        add_sleeps(&trace.card);
     begin(&record, &trace.card);
     lay_legal(&record, count);
     choose_end(&record);
@@ -405,6 +539,22 @@ static void far(void)
     trace.fail = record.fail;
 }
 
+/* Likewise by one long self-refresh. */
+static void far_asleep(bool bench, size_t count)
+{
+    legal(bench, true, count);
+    if (record.level == AWAKE && record.open)
+        lay(&record, PREA, 0, first_permitted(&record, PREA, 0));
+    if (record.level == AWAKE)
+        lay_pins(&record, NOP, 0, first_fall(&record, SELF_REFRESH), fall_pins(SELF_REFRESH));
+    uint64_t rise = UINT32_MAX - (one_in(2) ? below(50) : below(20 * record.interval));
+    if (record.level == SELF_REFRESH && rise > record.next && lay_pins(&record, NOP, 0, rise, rise_pins()))
+        lay_legal(&record, trace.n + count);
+    if (one_in(2) && record.next <= UINT32_MAX)
+        insert(trace.n, (struct entry){UINT32_MAX, stray_pins(938)});
+    choose_end(&record);
+}
+
 static uint32_t near(uint32_t v)
 {
     uint64_t by = one_in(2) ? 1 : one_in(2) ? between(1, 4) : below(200);
@@ -417,7 +567,7 @@ static void perturb_card(struct card *c)
     static const uint32_t rs[] = {0, 1, 16384, 16385, 65535};
     static const uint32_t edges[] = {0, 1, 999999, 1000000, 1000001, UINT32_MAX};
     static const uint8_t floors[] = {0, 1, 254, 255};
-    unsigned i = (unsigned)below(TIMINGS);
+    unsigned i = (unsigned)below(timings(c));
     switch (below(8)) {
     case 0:
         c->period = one_in(2) ? PICK(periods) : near(c->period);
@@ -445,9 +595,113 @@ static void perturb_card(struct card *c)
     }
 }
 
+static bool is_low(size_t i) { return !(trace.e[i].pins >> 21 & 1); }
+
+static bool is_moved(size_t i) { return is_low(i) != (i && is_low(i - 1)); }
+
+/* An entry with clock-enable low, a rise, or the entry behind a rise; bound: none that is asleep. The number of entries where there is none. */
+static size_t some_move(bool bound)
+{
+    size_t from = trace.n ? below(trace.n) : 0;
+    for (size_t j = 0; j < trace.n; j++) {
+        size_t i = (from + j) % trace.n;
+        if (is_moved(i) || (i && is_moved(i - 1) && !is_low(i - 1)) || (!bound && is_low(i)))
+            return i;
+    }
+    return trace.n;
+}
+
+static void shift_from(size_t i, uint32_t by)
+{
+    for (; i < trace.n; i++)
+        trace.e[i].stamp += by;
+}
+
+static const enum level levels[] = {POWER_DOWN, SELF_REFRESH, DEEP};
+
+static void add(uint64_t t, uint32_t pins)
+{
+    insert(trace.n, (struct entry){(uint32_t)t, pins});
+    trace.last = (uint32_t)(t + below(2));
+}
+
+/* At the end, about where the account fails. */
+static void end_in_failing(void)
+{
+    if (one_in(2))
+        add(trace.fail - between(1, 4), fall_pins(PICK(levels)));
+    uint64_t t = trace.fail + below(4) - 2;
+    add(t, one_in(3) ? fall_pins(PICK(levels)) : one_in(2) ? rise_pins() : (uint32_t)below(1 << 22));
+}
+
+/* An entry close behind this one, most often a fall or one that is not permitted. */
+static void crowd(size_t i)
+{
+    uint64_t most = record.cke > record.xp ? record.cke : record.xp;
+    uint64_t by = one_in(3) ? 1 : one_in(2) ? most - 1 + below(3) : between(1, most + 1);
+    struct entry e = {trace.e[i].stamp + (uint32_t)by, fall_pins(PICK(levels))};
+    if (one_in(3))
+        e.pins = (uint32_t)below(1 << 22);
+    if (one_in(6))
+        e.pins |= 1u << between(22, 23);
+    insert(i + 1, e);
+}
+
+static void perturb_move(void)
+{
+    unsigned what = (unsigned)below(16);
+    size_t i = some_move(what < 5 || what >= 14);
+    if (i == trace.n)
+        return;
+    struct entry *e = trace.e + i;
+    switch (what) {
+    case 0:
+    case 1:
+    case 2:
+        e->stamp--;
+        break;
+    case 3:
+        shift_from(i, UINT32_MAX);
+        break;
+    case 4:
+        shift_from(i, one_in(2) ? 1 : (uint32_t)between(1, 3 * record.interval));
+        break;
+    case 5:
+        e->pins ^= 1u << 20;
+        break;
+    case 6:
+        e->pins ^= 1u << 21;
+        break;
+    case 7:
+        e->pins |= 1u << between(22, 23);
+        break;
+    case 8:
+        e->pins = (e->pins & 0x200000) | (uint32_t)below(1 << 20);
+        break;
+    case 9:
+    case 10:
+        if (is_low(i))
+            e->pins = fall_pins(PICK(levels));
+        break;
+    case 11:
+        drop(i);
+        break;
+    case 12:
+    case 13:
+        end_in_failing();
+        break;
+    default:
+        crowd(i);
+    }
+}
+
 static void perturb(void)
 {
     struct entry stray;
+    if (trace.card.sleeps && one_in(2)) {
+        perturb_move();
+        return;
+    }
     size_t i = trace.n ? below(trace.n) : 0;
     struct entry *e = trace.e + i;
     unsigned what = (unsigned)below(18);
@@ -464,8 +718,7 @@ static void perturb(void)
         uint32_t by = near(0) + 1;
         if (one_in(2))
             by -= 2;
-        for (; i < trace.n; i++)
-            trace.e[i].stamp += by;
+        shift_from(i, by);
         break;
     }
     case 4:
@@ -533,7 +786,8 @@ static void perturb(void)
 /* Where a random field of the still well-formed trace begins. */
 static size_t some_field(void)
 {
-    size_t at = 0, k = one_in(3) ? below(18) : below(19 + trace.n);
+    size_t card = 4 + timings(&trace.card);
+    size_t at = 0, k = one_in(3) ? below(card) : below(card + 1 + trace.n);
     while (k-- && at + 3 <= bytes.n)
         at += 3 + (size_t)(bytes.p[at + 1] << 8 | bytes.p[at + 2]);
     return at < bytes.n ? at : 0;
@@ -547,11 +801,55 @@ static void insert_random(size_t at, size_t n)
     }
 }
 
+#define CARD 135
+#define TIMING 8
+
+/* Something wrong about tags 19 to 22, in a file that is well-formed but for such things. */
+static void spoil_tags(void)
+{
+    uint8_t field[TIMING];
+    size_t k = below(4), n = (one_in(2) ? 1 : between(1, 4 - k)) * TIMING, at = CARD + k * TIMING;
+    if (bytes.n < CARD + 4 * TIMING)
+        return;
+    memcpy(field, bytes.p + at, TIMING);
+    switch (below(7)) {
+    case 0:
+        drop_bytes(at, n);
+        break;
+    case 1:
+        drop_bytes(CARD, 4 * TIMING);
+        break;
+    case 2:
+        insert_bytes(at + (one_in(2) ? 0 : TIMING), field, TIMING);
+        break;
+    case 3:
+    case 4: {
+        /* behind the card or an entry */
+        size_t to = CARD + 4 * TIMING + 10 * below(trace.n + 1);
+        if (to > bytes.n)
+            break;
+        insert_bytes(to, field, TIMING);
+        if (one_in(2))
+            drop_bytes(at, TIMING);
+        break;
+    }
+    case 5:
+        bytes.p[at] = (uint8_t)between(17, 24);
+        break;
+    default:
+        bytes.p[at + 3] = (uint8_t)(one_in(2) ? 1 : draw());
+    }
+}
+
 static void spoil(void)
 {
-    static const uint8_t tags[] = {0, 1, 2, 18, 19, 31, 32, 33, 34, 255};
+    static const uint8_t tags[] = {0, 1, 2, 18, 19, 20, 22, 23, 31, 32, 33, 34, 255};
     if (!bytes.n)
         return;
+    if (trace.card.sleeps && one_in(3)) {
+        spoil_tags();
+        return;
+    }
     size_t at = one_in(2) ? some_field() : below(bytes.n);
     switch (below(11)) {
     case 0:
@@ -589,7 +887,7 @@ static void spoil(void)
         uint8_t again[16];
         size_t from = some_field(), n = bytes.n - from;
         if (n > 10)
-            n = from < 135 ? 8 : 10;
+            n = from < CARD + (trace.card.sleeps ? 4 * TIMING : 0) ? TIMING : 10;
         memcpy(again, bytes.p + from, n);
         insert_bytes(one_in(3) ? from : one_in(2) ? bytes.n : some_field(), again, n);
         break;
@@ -609,16 +907,19 @@ static void spoil(void)
     }
 }
 
-static void make(const char *kind, uint64_t from, size_t count)
+static void make(const char *kind, bool sleeps, uint64_t from, size_t count)
 {
     bool bench = from % 4 == 0;
     seed = from;
     if (!strcmp(kind, "far")) {
-        far();
+        if (sleeps)
+            far_asleep(bench, count);
+        else
+            far();
         serialize();
         return;
     }
-    legal(bench, count);
+    legal(bench, sleeps, count);
     if (!strcmp(kind, "perturbed") || (!strcmp(kind, "hostile") && one_in(4)))
         for (unsigned n = one_in(2) ? 1 : (unsigned)between(2, 4); n--;)
             perturb();
@@ -661,9 +962,10 @@ static void many(uint64_t n, uint64_t from)
                        : one_in(50) ? between(100, 1000)
                        : one_in(3)  ? below(100)
                                     : below(20);
-        if (i % 50000 == 8)
+        bool sleeps = one_in(3);
+        if (i % 50000 == 8 || (sleeps && one_in(40)))
             kind = "far";
-        make(kind, own, count);
+        make(kind, sleeps && i % 50000 != 8, own, count);
         write_framed(bytes.n);
         for (size_t k = 0; cuts && k < bytes.n; k++)
             write_framed(k);
@@ -689,7 +991,7 @@ static int pick(uint64_t k)
 
 static int usage(void)
 {
-    fprintf(stderr, "usage: generate legal|perturbed|hostile|far SEED [COUNT]\n"
+    fprintf(stderr, "usage: generate legal|sleeping|perturbed|hostile|far SEED [COUNT]\n"
                     "       generate --many N SEED\n"
                     "       generate --pick K\n");
     return 2;
@@ -706,9 +1008,9 @@ int main(int argc, char **argv)
         many(a, b);
     else if (!strcmp(kind, "--pick") && argc == 3)
         status = pick(a);
-    else if (!strcmp(kind, "legal") || !strcmp(kind, "perturbed") || !strcmp(kind, "hostile") ||
-             !strcmp(kind, "far")) {
-        make(kind, a, b);
+    else if (!strcmp(kind, "legal") || !strcmp(kind, "sleeping") || !strcmp(kind, "perturbed") ||
+             !strcmp(kind, "hostile") || !strcmp(kind, "far")) {
+        make(kind, !strcmp(kind, "sleeping"), a, b);
         write_bytes(bytes.p, bytes.n);
     } else
         return usage();

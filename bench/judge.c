@@ -86,8 +86,8 @@ static uint64_t big8(const uint8_t *p)
            (uint64_t)p[4] << 24 | (uint64_t)p[5] << 16 | (uint64_t)p[6] << 8 | (uint64_t)p[7];
 }
 
-/* Kinds by the seven pins that decide them: CA0r to CA4r, CA0f, CS_n. */
-static uint8_t kinds[128];
+/* Kinds by the eight pins that decide them: CA0r to CA4r, CA0f, CS_n, CKE; with CKE low an entry that is taken is NOP. */
+static uint8_t kinds[256];
 
 /* What follows the cycle on an entry's line; the ninth column has no bank. */
 static struct tail {
@@ -101,7 +101,7 @@ static void tables(void)
 {
     static const char *const names[] = {"NOP", "MRW", "MRR", "REFPB", "REFAB", "ACT",
                                         "RD",  "RDA", "WR",  "WRA",   "PRE",   "PREA"};
-    for (uint32_t i = 0; i < 128; i++)
+    for (uint32_t i = 128; i < 256; i++)
         kinds[i] = (uint8_t)decode((i & 31) | (i >> 5 & 1) << 10 | (i >> 6) << 20);
     for (int k = 0; k < RESERVED; k++)
         for (int b = 0; b < 9; b++)
@@ -210,10 +210,13 @@ static bool read_value(struct card *c, unsigned tag, const uint8_t *p)
     }
 }
 
+/* Tags 19 to 22 come all four or not at all. */
 static bool read_card(struct card *c)
 {
     static const uint8_t lengths[] = {4, 1, 2, 4};
-    for (unsigned tag = 1; tag <= 18; tag++) {
+    unsigned last = 18;
+    memset(c, 0, sizeof *c);
+    for (unsigned tag = 1; tag <= last; tag++) {
         unsigned length = tag <= 4 ? lengths[tag - 1] : 5;
         bool fits = have(1) && in.buf[in.at] == tag;
         unsigned number = head(fits, length);
@@ -224,6 +227,10 @@ static bool read_card(struct card *c)
             return false;
         }
         take(3 + length);
+        if (tag == 18 && have(1) && in.buf[in.at] == 19) {
+            last = 22;
+            c->sleeps = true;
+        }
     }
     return true;
 }
@@ -240,7 +247,7 @@ static bool entries(struct record *r, bool lines)
         if (p[0] != 32 || p[1] != 0 || v >> 56 != 7)
             break;
         uint32_t stamp = (uint32_t)(v >> 24), pins = v & 0xFFFFFF;
-        enum kind k = kinds[(pins & 31) | (pins >> 10 & 1) << 5 | (pins >> 20 & 1) << 6];
+        enum kind k = kinds[(pins & 31) | (pins >> 10 & 1) << 5 | (pins >> 20 & 3) << 6];
         unsigned bank = k == REFPB ? r->counter : bank_bits(pins);
         good = step(r, k, bank, stamp, pins, &no);
         if (!good)

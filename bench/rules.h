@@ -25,12 +25,19 @@ enum timing {
     tRFCpb,
     tMRR,
     tMRW,
+    tCKE,
+    tXP,
+    tCKESR,
+    tXSR,
     TIMINGS
 };
+
+enum level { AWAKE, POWER_DOWN, SELF_REFRESH, DEEP };
 
 struct card {
     uint32_t period, refi, r;
     uint8_t mr2;
+    bool sleeps; /* tags 19 to 22 are there */
     uint32_t ps[TIMINGS];
     uint8_t floor[TIMINGS];
 };
@@ -88,7 +95,7 @@ struct bank {
 struct record {
     uint64_t next; /* least stamp an entry may have */
     uint64_t fail; /* first cycle that fails without another counted refresh */
-    uint64_t gate; /* greatest of r1, r2, r3 */
+    uint64_t gate; /* greatest of r1, r2, r3, r22, r24 */
     uint64_t r1, r2, r3, r4;
     uint64_t r12[2]; /* to a read, to a write */
     uint64_t r14_13[2];
@@ -98,11 +105,18 @@ struct record {
     unsigned open; /* one bit a bank */
     unsigned counter;
     unsigned fail_rule;
+    unsigned steady; /* bits 21 to 23 of an entry that neither moves clock-enable nor stands asleep */
+    enum level level;
+    uint64_t fall; /* latest fall of clock-enable */
+    uint64_t r21, r22, r24;
+    uint64_t skipped; /* uncounted cycles through the latest self-refresh exit */
+    uint64_t kept; /* fail at the latest fall, while nothing fails */
+    uint64_t cke, xp, ckesr, xsr;
     uint64_t rcd, rppb, rpab, ras, rc, rrd, faw, rfcab, rfcpb, mrr, mrw;
     uint64_t turn[2], to_pre[2]; /* read to write, write to read; to PRE; under the MR2 in force */
     uint64_t commands, refreshes;
     int64_t ledger; /* after the last counted refresh */
-    uint64_t dues;  /* multiples of the interval through that refresh */
+    uint64_t dues;  /* multiples of the interval through that refresh, over the counted cycles */
     uint64_t interval;
     struct bank bank[8];
     struct card card;
@@ -131,14 +145,16 @@ static inline void set_mr2(struct record *r, uint8_t mr2)
     r->to_pre[1] = wl + 5 + clocks(c, c->ps[tWR], c->floor[tWR]);
 }
 
+INLINE bool uncounted(enum level l) { return l == SELF_REFRESH || l == DEEP; }
+
 static inline void count_refresh(struct record *r, uint64_t t)
 {
-    uint64_t dues = t / r->interval;
+    uint64_t dues = (t - r->skipped) / r->interval;
     int64_t ledger = r->ledger + (int64_t)(dues - r->dues) - 1;
     r->ledger = ledger < -8 ? -8 : ledger;
     r->dues = dues;
     r->refreshes++;
-    uint64_t fail19 = (dues + (uint64_t)(9 - r->ledger)) * r->interval;
+    uint64_t fail19 = (dues + (uint64_t)(9 - r->ledger)) * r->interval + r->skipped;
     uint64_t fail20 = t + 9 * r->interval + 1;
     r->fail = fail19 <= fail20 ? fail19 : fail20;
     r->fail_rule = fail19 <= fail20 ? 19 : 20;
@@ -146,7 +162,8 @@ static inline void count_refresh(struct record *r, uint64_t t)
 
 static inline int64_t ledger_at(const struct record *r, uint64_t t)
 {
-    return r->ledger + (int64_t)(t / r->interval - r->dues);
+    uint64_t counted = (uncounted(r->level) ? r->fall : t) - r->skipped;
+    return r->ledger + (int64_t)(counted / r->interval - r->dues);
 }
 
 static inline void begin(struct record *r, const struct card *c)
@@ -161,6 +178,8 @@ static inline void begin(struct record *r, const struct card *c)
     r->rcd = n[tRCD], r->rppb = n[tRPpb], r->rpab = n[tRPab], r->ras = n[tRAS];
     r->rrd = n[tRRD], r->faw = n[tFAW], r->rfcab = n[tRFCab], r->rfcpb = n[tRFCpb];
     r->mrr = n[tMRR], r->mrw = n[tMRW];
+    r->cke = n[tCKE], r->xp = n[tXP], r->ckesr = n[tCKESR], r->xsr = n[tXSR];
+    r->steady = 1;
     r->to_pre[0] = n[tRTP] > 4 ? n[tRTP] : 4;
     r->rc = clocks(c, (uint64_t)c->ps[tRAS] + c->ps[tRPpb], (uint64_t)c->floor[tRAS] + c->floor[tRPpb]);
     r->interval = c->refi / c->period;
@@ -181,14 +200,6 @@ static inline void raise_to(uint64_t *a, uint64_t b)
 {
     if (*a < b)
         *a = b;
-}
-
-static unsigned ask_gate(const struct record *r, uint64_t t, uint64_t *first)
-{
-    ASK(1, r->r1);
-    ASK(2, r->r2);
-    ASK(3, r->r3);
-    return 0;
 }
 
 /* Rule 10: the latest ACT, and for an ACT the latest REFpb too, to another bank. */
@@ -227,13 +238,9 @@ static unsigned ask_all(const struct record *r, enum kind k, uint64_t t, uint64_
     return 0;
 }
 
-/* The lowest of rules 1 to 18 that k at t breaks, with its first permitted cycle; 0: none. */
-INLINE unsigned ask(const struct record *r, enum kind k, unsigned bank, uint64_t t, uint64_t *first)
+/* Rules 4 to 18. */
+INLINE unsigned ask_rest(const struct record *r, enum kind k, unsigned bank, uint64_t t, uint64_t *first)
 {
-    if (k == NOP)
-        return 0;
-    if (t < r->gate)
-        return ask_gate(r, t, first);
     const struct bank *b = &r->bank[bank];
     switch (k) {
     case ACT:
@@ -268,6 +275,50 @@ INLINE unsigned ask(const struct record *r, enum kind k, unsigned bank, uint64_t
     default:
         return ask_all(r, k, t, first);
     }
+}
+
+/* All rules, of a command other than NOP, where one that asks every such command is broken; 21 is asked of falls only. */
+static __attribute__((noinline)) unsigned ask_gate(const struct record *r, enum kind k, unsigned bank, bool falls,
+                                                   uint64_t t, uint64_t *first)
+{
+    ASK(1, r->r1);
+    ASK(2, r->r2);
+    ASK(3, r->r3);
+    unsigned rule = ask_rest(r, k, bank, t, first);
+    if (rule)
+        return rule;
+    if (falls)
+        ASK(21, r->r21);
+    ASK(22, r->r22);
+    ASK(24, r->r24);
+    return 0;
+}
+
+/* The lowest rule that k at t breaks, with its first permitted cycle; 0: none. */
+INLINE unsigned ask(const struct record *r, enum kind k, unsigned bank, uint64_t t, uint64_t *first)
+{
+    if (k == NOP)
+        return 0;
+    if (t < r->gate)
+        return ask_gate(r, k, bank, false, t, first);
+    return ask_rest(r, k, bank, t, first);
+}
+
+/* Likewise for a fall to this level: self-refresh and deep power-down have the delays of a REFab. */
+static unsigned ask_fall(const struct record *r, enum level to, uint64_t t, uint64_t *first)
+{
+    if (to != POWER_DOWN)
+        return ask_gate(r, REFAB, 0, true, t, first);
+    ASK(21, r->r21);
+    return 0;
+}
+
+static unsigned ask_rise(const struct record *r, uint64_t t, uint64_t *first)
+{
+    ASK(21, r->fall + r->cke);
+    if (r->level == SELF_REFRESH)
+        ASK(23, r->fall + r->ckesr);
+    return 0;
 }
 
 INLINE bool state_permits(const struct record *r, enum kind k, unsigned bank)
@@ -363,6 +414,83 @@ INLINE void note(struct record *r, enum kind k, unsigned bank, uint32_t pins, ui
     r->next = t + 1;
 }
 
+/* The level that a fall with these pins goes to; AWAKE: none. */
+static inline enum level falls_to(uint32_t pins)
+{
+    if (pins >> 20 & 1)
+        return POWER_DOWN;
+    switch (decode(pins)) {
+    case REFPB:
+    case REFAB:
+        return SELF_REFRESH;
+    case PRE:
+    case PREA:
+    case RESERVED:
+        return DEEP;
+    default:
+        return AWAKE;
+    }
+}
+
+static inline void note_fall(struct record *r, enum level to, uint64_t t)
+{
+    r->level = to;
+    r->fall = t;
+    r->steady = 8;
+    if (uncounted(to)) {
+        r->kept = r->fail;
+        r->fail = UINT64_MAX;
+    }
+}
+
+/* What would have failed fails later by the cycles that were not counted. */
+static inline void note_rise(struct record *r, uint64_t t)
+{
+    r->r21 = t + r->cke;
+    if (r->level == SELF_REFRESH) {
+        r->skipped += t - r->fall;
+        r->fail = r->kept + (t - r->fall);
+        r->counter = 0;
+        r->r24 = t + r->xsr;
+        raise_to(&r->gate, r->r24);
+    } else {
+        r->r22 = t + r->xp;
+        raise_to(&r->gate, r->r22);
+    }
+    r->level = AWAKE;
+    r->steady = 1;
+}
+
+/* An entry with clock-enable low, or asleep, or with bits 22 and 23 wrong, once its stamp is good. */
+static __attribute__((noinline)) bool step_moved(struct record *r, uint64_t t, uint32_t pins, struct refusal *no)
+{
+    bool high = pins >> 21 & 1, falls = r->level == AWAKE;
+    enum level to = falls_to(pins);
+    uint64_t first = 0;
+    unsigned rule = 0;
+    *no = (struct refusal){0, 0, 0};
+    if (!r->card.sleeps || pins >> 22)
+        no->number = 6;
+    else if (r->level == DEEP || (falls && to == AWAKE) || (!falls && high && !(pins >> 20 & 1)))
+        no->number = 16;
+    else if (falls && to != POWER_DOWN && r->open)
+        no->number = 8;
+    else if (falls || high)
+        rule = falls ? ask_fall(r, to, t, &first) : ask_rise(r, t, &first);
+    if (rule)
+        *no = (struct refusal){10, rule, first};
+    else if (!no->number && t == r->fail)
+        *no = (struct refusal){11, r->fail_rule, r->fail};
+    if (no->number)
+        return false;
+    if (falls)
+        note_fall(r, to, t);
+    else if (high)
+        note_rise(r, t);
+    r->next = t + 1;
+    return true;
+}
+
 /* The rest of a step once its kind is known; inlined once a kind, so that one jump decides it all. */
 INLINE bool step_kind(struct record *r, enum kind k, unsigned bank, uint64_t t, uint32_t pins,
                       struct refusal *no)
@@ -406,10 +534,8 @@ static inline bool step(struct record *r, enum kind k, unsigned bank, uint64_t t
         *no = (struct refusal){11, r->fail_rule, r->fail};
         return false;
     }
-    if (pins >> 21 != 1) {
-        *no = (struct refusal){6, 0, 0};
-        return false;
-    }
+    if (pins >> 21 != r->steady)
+        return step_moved(r, t, pins, no);
     switch (k) {
     case ACT:
         return step_kind(r, ACT, bank, t, pins, no);

@@ -1,5 +1,6 @@
 # Bytes to text, behind form.awk. Reads a trace as `od -An -v -tu1` prints it. A field is read where it may come; from the first byte that fits
-# nowhere on, all is raw. A card that is not whole is raw too, with its fields in comments: the text form wants all values of a card or none.
+# nowhere on, all is raw. A card that is not whole is raw too, with its fields in comments: the text form wants all values of a card or none, and so for the values
+# of a part that sleeps.
 
 BEGIN { due = 1 }
 
@@ -9,15 +10,15 @@ BEGIN { due = 1 }
 }
 
 END {
-    if (due <= CARD && !lost)
+    if (held && !lost)
         lose("")
     if (n > 0)
         put_raw(lost && why ? "" : "the field is cut")
-    else if (due <= CARD + 1 && !raws)
+    else if (!ended && !raws)
         put_raw("the file ends here")
 }
 
-# One byte more. Bytes not yet written are b[1] to b[n]; due: the card tag that may come, then CARD + 1, then CARD + 2 behind the end.
+# One byte more. Bytes not yet written are b[1] to b[n], and before them `held` card fields; due: the card tag that may come, FULL + 1 where none may.
 function take(byte) {
     b[++n] = byte
     if (!lost && n == 1 && !may_come(byte))
@@ -31,21 +32,33 @@ function take(byte) {
 }
 
 function may_come(tag) {
-    return due <= CARD ? tag == due : due == CARD + 1 && (tag == ENTRY || tag == LAST)
+    if (tag == ENTRY || tag == LAST)
+        return due > CARD && !held && !ended
+    return tag == due && due <= FULL
 }
 
-function put_field(    tag) {
-    if (due > CARD) {
-        print field_text(b)
-        due += b[1] == LAST
-    } else {
-        named[due] = field_text(b)
-        bare[due] = raw_text(b, n)
-        if (due++ == CARD)
-            for (tag = 1; tag <= CARD; tag++)
-                print named[tag]
+function put_field() {
+    if (b[1] == due)
+        hold_field()
+    else {
+        print field_text(b, cke)
+        if (b[1] == ENTRY)
+            cke = cke_after(number_at(b, 8, 3), cke)
+        ended = b[1] == LAST
+        due = FULL + 1
     }
     n = 0
+}
+
+function hold_field() {
+    named[due] = field_text(b)
+    bare[due] = raw_text(b, n)
+    held++
+    if (due == CARD || due == FULL)
+        for (; held > 0; held--)
+            print named[due - held + 1]
+    if (due++ == FULL)
+        cke = "high"
 }
 
 function put_raw(comment) {
@@ -55,14 +68,13 @@ function put_raw(comment) {
 }
 
 # From the bytes at hand on nothing can be read as a field.
-function lose(reason,    tag) {
+function lose(reason) {
     lost = 1
     why = reason
-    if (due <= CARD)
-        for (tag = 1; tag < due; tag++) {
-            print bare[tag] "  # " named[tag]
-            raws++
-        }
+    for (; held > 0; held--) {
+        print bare[due - held] "  # " named[due - held]
+        raws++
+    }
     if (reason != "")
         print "# " reason ":"
 }

@@ -1,9 +1,14 @@
-# The form of a trace: the card's fields by tag, commands on the pins, a field as text. Document 01, "The file" and "Commands on the pins".
+# The form of a trace: the card's fields by tag, commands and moves of clock-enable on the pins, a field as text. Document 01, "The file" and "Commands on the
+# pins"; document 02, One.
 # Numbers of 32 bits are printed by %.0f: %d stops at 2^31 - 1 in some awks.
 
 BEGIN {
+    # a card ends with tag CARD, or with tag FULL where the part may sleep
     CARD = split("period mr2 groups trefi trcd trppb trpab tras trrd tfaw trtp twr twtr tdqsck trfcab trfcpb tmrr tmrw", NAME, " ")
-    for (tag = 1; tag <= CARD; tag++) {
+    FULL = CARD + split("tcke txp tckesr txsr", SLEEPS, " ")
+    for (tag = CARD + 1; tag <= FULL; tag++)
+        NAME[tag] = SLEEPS[tag - CARD]
+    for (tag = 1; tag <= FULL; tag++) {
         TAG[NAME[tag]] = tag
         SIZE[tag] = 5
     }
@@ -20,6 +25,16 @@ BEGIN {
     for (k = 16; k >= 1; k--)
         CODE[KIND[k]] = k - 1
 
+    # moves of clock-enable and entries asleep, their ignored pins zero
+    MOVE["POWER-DOWN"] = POW[20]
+    MOVE["SELF-REFRESH"] = 4
+    MOVE["DEEP-POWER-DOWN"] = 3
+    MOVE["ASLEEP"] = 0
+    MOVE["WAKE"] = 3 * POW[20]
+    # clock-enable before them, and before NOP
+    BEFORE["NOP"] = BEFORE["POWER-DOWN"] = BEFORE["SELF-REFRESH"] = BEFORE["DEEP-POWER-DOWN"] = "high"
+    BEFORE["ASLEEP"] = BEFORE["WAKE"] = "low"
+
     # what a command carries, and the most that the pins hold of it
     TAKES["ACT"] = "bank row"
     TAKES["RD"] = TAKES["RDA"] = TAKES["WR"] = TAKES["WRA"] = "bank col"
@@ -27,6 +42,8 @@ BEGIN {
     TAKES["MRW"] = "ma op"
     TAKES["MRR"] = "ma"
     TAKES["PREA"] = TAKES["REFAB"] = TAKES["REFPB"] = TAKES["NOP"] = ""
+    for (name in MOVE)
+        TAKES[name] = ""
     MOST["bank"] = 7; MOST["row"] = 32767; MOST["col"] = 4095; MOST["ma"] = MOST["op"] = 255
 }
 
@@ -36,6 +53,8 @@ function bits(x, from, count) {
 
 # The pins of a command that carries v. The names with A for AP or for all banks have one bit more.
 function pins_of(name, v,    kind, p) {
+    if (name in MOVE)
+        return MOVE[name]
     if (name == "NOP")
         return 3 * POW[20]
     kind = name
@@ -82,15 +101,51 @@ function command_text(name, v,    n, i, word, text) {
     return text
 }
 
-# A command by its name where the name gives these very pins, else the pins with the name in a comment.
-function pins_text(p,    name, v, raw) {
-    name = command_on(p, v)
+# The name of an entry, with what it carries in v; "-" where it has none. cke is clock-enable before it, "high" or "low", or "" on a card without tcke: there
+# it never falls.
+function name_on(p, cke, v) {
+    if (cke == "" || bits(p, 21, 3) == 1 && (cke == "high" || !bits(p, 20, 1)))
+        return command_on(p, v)
+    split("", v)
+    if (bits(p, 22, 2))
+        return "-"
+    if (cke == "low")
+        return bits(p, 21, 1) ? "WAKE" : "ASLEEP"
+    if (bits(p, 20, 1))
+        return "POWER-DOWN"
+    return p % 8 == MOVE["SELF-REFRESH"] ? "SELF-REFRESH" : p % 8 == MOVE["DEEP-POWER-DOWN"] ? "DEEP-POWER-DOWN" : "-"
+}
+
+# Clock-enable after an entry with these pins.
+function cke_after(p, cke) {
+    return cke != "high" && cke != "low" ? cke : bits(p, 21, 1) ? "high" : "low"
+}
+
+# What is wrong with the pins of an entry that is called name, if anything is.
+function wrong_with(p, cke, name) {
+    if (cke == "" && bits(p, 21, 3) != 1)
+        return "bits 21 to 23 are wrong"
+    if (bits(p, 22, 2))
+        return "bits 22 and 23 are wrong"
+    if (cke == "low" && bits(p, 20, 2) == 2)
+        return "clock-enable rises with CS_n low"
+    if (cke == "high" && name == "-" && !bits(p, 21, 1))
+        return "clock-enable falls, and the pins name no sleep"
+    return name == "-" ? "reserved" : ""
+}
+
+# An entry by its name where the name gives these very pins, else the pins with the name in a comment.
+function pins_text(p, cke,    name, v, text, note, wrong) {
+    name = name_on(p, cke, v)
+    text = sprintf("PINS 0x%06x", p)
     if (name != "-" && pins_of(name, v) == p)
-        return command_text(name, v)
-    raw = sprintf("PINS 0x%06x", p)
-    if (name != "-")
-        return raw "  # " command_text(name, v) ", with ignored bits set"
-    return raw (bits(p, 21, 3) != 1 ? "  # bits 21 to 23 are wrong" : "  # reserved")
+        text = command_text(name, v)
+    else if (name != "-")
+        note = command_text(name, v) ", with ignored bits set"
+    wrong = wrong_with(p, cke, name)
+    if (wrong != "")
+        note = note (note == "" ? "" : "; ") wrong
+    return text (note == "" ? "" : "  # " note)
 }
 
 # The number in count bytes of b, the highest first.
@@ -106,11 +161,11 @@ function is_field(b, n) {
     return n >= 4 && (b[1] in SIZE) && number_at(b, 2, 2) == SIZE[b[1]] && n >= 3 + SIZE[b[1]]
 }
 
-# The line of text that stands for the field in b.
-function field_text(b,    tag) {
+# The line of text that stands for the field in b, an entry behind clock-enable cke.
+function field_text(b, cke,    tag) {
     tag = b[1]
     if (tag == ENTRY)
-        return sprintf("%.0f ", number_at(b, 4, 4)) pins_text(number_at(b, 8, 3))
+        return sprintf("%.0f ", number_at(b, 4, 4)) pins_text(number_at(b, 8, 3), cke)
     if (tag == LAST)
         return sprintf("end %.0f", number_at(b, 4, 4))
     if (NAME[tag] == "mr2")

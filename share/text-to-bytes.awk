@@ -2,6 +2,8 @@
 
 BEGIN {
     from = ENVIRON["FROM"]
+    # clock-enable where it is not known: in a text without a card, and behind raw
+    UNKNOWN = "unknown"
     # document 01's bench card
     split("1250 0x1a 8192 3900000 18000/3 18000/3 21000/3 42000/3 10000/2 50000/8 7500/4 15000/4 7500/4 5500/0 130000/0 60000/0 0/4 0/10", BENCH, " ")
     for (k = 0; k < 256; k++)
@@ -120,11 +122,17 @@ function set_value(tag, first, second,    size) {
 }
 
 # Puts the card, before the first line that is none of it.
-function begin(    tag, missing) {
+function begin(    tag, last, missing) {
     begun = 1
+    cke = UNKNOWN
     if (!carded && tolower($1) == "raw" && NF > 0)
         return
-    for (tag = 1; tag <= CARD; tag++) {
+    last = CARD
+    for (tag = CARD + 1; tag <= FULL; tag++)
+        if (tag in value)
+            last = FULL
+    cke = last == FULL ? "high" : ""
+    for (tag = 1; tag <= last; tag++) {
         if (!(tag in value))
             missing = missing " " NAME[tag]
         put(octal(tag, 1) octal(SIZE[tag], 2) value[tag])
@@ -140,6 +148,7 @@ function raw_line(    i, text) {
         else
             bad("raw: " $i " is no byte of two hexadecimal digits")
     put(text)
+    cke = UNKNOWN
     if (behind != "end")
         behind = "raw"
 }
@@ -158,6 +167,21 @@ function entry_line(    stamp, name, pins) {
         return
     }
     put(octal(ENTRY, 1) octal(SIZE[ENTRY], 2) octal(stamp, 4) octal(pins, 3))
+    if (level_good(name))
+        cke = cke_after(pins, cke)
+}
+
+# A fall, a rise, an entry asleep and NOP stand where clock-enable makes them that, else they move nothing. A command asleep is the judge's to refuse.
+function level_good(name) {
+    if (name in MOVE && cke == "")
+        bad(name ": the card lacks tcke txp tckesr txsr")
+    else if (name in BEFORE && BEFORE[name] == "low" && cke == "high")
+        bad(name ": the part is awake")
+    else if (name in BEFORE && BEFORE[name] == "high" && cke == "low")
+        bad(name ": the part is asleep, which wants ASLEEP or WAKE")
+    else
+        return 1
+    return 0
 }
 
 # The pins of the line's command: its bank, if it has one, then pairs of a word and a number. Row and column may be left out and are 0.
@@ -169,7 +193,7 @@ function named_pins(name,    i, word, v) {
         word = tolower($i)
         if (word == "bank" || index(" " TAKES[name] " ", " " word " ") == 0) {
             bad(name " takes " (TAKES[name] == "" ? "nothing" : TAKES[name]) ", not " $i)
-            return 0
+            return pins_of(name, v)
         }
         if (word in v)
             bad(word " is given twice")

@@ -45,27 +45,61 @@ function explain_counts(    k, text) {
     print "why    " text
 }
 
-function explain_refusal(number, rule, offset, cycle,    b, n, at, tag) {
+function explain_refusal(number, rule, offset, cycle,    b, n, last, at, tag, cke) {
     read_words()
     print "why    " number ": " says["number " number]
+    last = last_tag(offset)
     if (rule > 0)
-        explain_rule(rule)
+        explain_rule(rule, last)
+    if (last == FULL && ("sleep " number) in says)
+        print "sleep  " says["sleep " number]
     n = read_bytes(offset, 10, b)
-    for (tag = 1; tag <= CARD && at < offset; tag++)
+    for (tag = 1; tag <= last && at < offset; tag++)
         at += 3 + SIZE[tag]
-    print "where  " place(number, offset, tag, at, b[1]) sprintf(", at byte %.0f: ", offset) standing(b, n)
-    if (tag <= CARD)
+    cke = last == FULL ? cke_before(offset, at) : ""
+    print "where  " place(number, offset, tag, last, at, b[1]) sprintf(", at byte %.0f: ", offset) standing(b, n, cke)
+    if (tag <= last)
         print "field  " NAME[tag] ": " says["field " tag]
+    else if (number != 12 && is_field(b, n) && b[1] == ENTRY)
+        explain_entry(name_on(number_at(b, 8, 3), cke))
     if (number == 4 || number == 9)
         print "range  " says["range " (number == 9 ? TAG["mr2"] : tag < 5 ? tag : 5)]
     if (rule > 0)
         print "cycle  " cycle ": " says["cycle " number]
 }
 
-# What begins at the offset: a card field by its tag, or what comes behind the card, which is `at` bytes long.
-function place(number, offset, tag, at, first) {
-    if (tag <= CARD)
-        return (first == tag ? "" : "in the place of ") "field " tag " of the card's " CARD
+# The tag that the card ends with: FULL as soon as the first of the fields for sleep stands behind tag CARD, and the judge came that far.
+function last_tag(offset,    b) {
+    if (offset < card_bytes(CARD))
+        return CARD
+    read_bytes(card_bytes(CARD), 1, b)
+    return b[1] == CARD + 1 ? FULL : CARD
+}
+
+# How many bytes a card takes that ends with tag `last`.
+function card_bytes(last,    tag, size) {
+    for (tag = 1; tag <= last; tag++)
+        size += 3 + SIZE[tag]
+    return size
+}
+
+# Clock-enable before the entry at the offset, behind a card of `at` bytes: as the entry before it left it.
+function cke_before(offset, at,    b) {
+    if (offset < at + 3 + SIZE[ENTRY])
+        return "high"
+    read_bytes(offset - 3 - SIZE[ENTRY], 3 + SIZE[ENTRY], b)
+    return cke_after(number_at(b, 8, 3), "high")
+}
+
+function explain_entry(name) {
+    if (("entry " name) in says)
+        print "entry  " name ": " says["entry " name]
+}
+
+# What begins at the offset: a card field by its tag, or what comes behind the card, which is `at` bytes long and ends with tag `last`.
+function place(number, offset, tag, last, at, first) {
+    if (tag <= last)
+        return (first == tag ? "" : "in the place of ") "field " tag " of the card's " last
     if (number == 12)
         return "behind the end field"
     if (first == LAST)
@@ -73,15 +107,15 @@ function place(number, offset, tag, at, first) {
     return sprintf("%sentry %.0f of the trace, counted from 1", first == ENTRY ? "" : "in the place of ", (offset - at) / (3 + SIZE[ENTRY]) + 1)
 }
 
-function standing(b, n) {
-    return n == 0 ? "the file ends" : is_field(b, n) ? field_text(b) : raw_text(b, n)
+function standing(b, n, cke) {
+    return n == 0 ? "the file ends" : is_field(b, n) ? field_text(b, cke) : raw_text(b, n)
 }
 
-# The rule, and what the terms n(..) and i(..) in it come to on this card.
-function explain_rule(number,    rest, text) {
+# The rule, and what the terms n(..) and i(..) in it come to on this card, which ends with tag `last`.
+function explain_rule(number, last,    rest, text) {
     rest = says["rule " number]
     print "rule   " number ": " rest
-    read_card()
+    read_card(last)
     while (match(rest, /[ni]\([a-z +]*\)/)) {
         text = text "; " in_clocks(substr(rest, RSTART, RLENGTH))
         rest = substr(rest, RSTART + RLENGTH)
@@ -90,9 +124,9 @@ function explain_rule(number,    rest, text) {
         print "card   " value["period"] text
 }
 
-function read_card(    b, field, at, tag, k) {
-    read_bytes(0, 135, b)
-    for (tag = 1; tag <= CARD; tag++) {
+function read_card(last,    b, field, at, tag, k) {
+    read_bytes(0, card_bytes(last), b)
+    for (tag = 1; tag <= last; tag++) {
         for (k = 1; k <= 3 + SIZE[tag]; k++)
             field[k] = b[at + k]
         at += 3 + SIZE[tag]

@@ -29,9 +29,12 @@ KINDS = [
 def levels(pins):
     return {name: pins >> i & 1 for i, name in enumerate(NAMES)}
 
+def stands(on, level):
+    return all(on["CA%dr" % i] == "LH".index(l) for i, l in enumerate(level))
+
 def kind_at(on):
     for kind, level, places in KINDS:
-        if all(on["CA%dr" % i] == "LH".index(l) for i, l in enumerate(level)):
+        if stands(on, level):
             return kind, places
 
 def decode(pins):
@@ -48,6 +51,25 @@ def decode(pins):
     if kind == "MRW" and numbers["ma"] not in LISTED:
         return 7
     return kind, numbers
+
+def read(sleeps, level, pins):
+    """Document 02, One: at this level of a card with tags 19 to 22, or of one without. A command as decode has it; a fall, with the level it goes to; an entry asleep;
+    a rise; or the refusal 6, 7 or 16."""
+    on = levels(pins)
+    if not sleeps:
+        return decode(pins)
+    if on["zero 22"] or on["zero 23"] or pins >> 24:
+        return 6
+    if level == "deep":
+        return 16
+    if level != "awake":
+        return ("LOW", {}) if not on["CKE"] else ("RISE", {}) if on["CS_n"] else 16
+    if on["CKE"]:
+        return decode(pins)
+    if on["CS_n"]:
+        return "FALL", {"level": "power-down"}
+    to = [to for to, form in (("self-refresh", "LLH"), ("deep", "HHL")) if stands(on, form)]
+    return ("FALL", {"level": to[0]}) if to else 16
 
 def pins_of(kind, numbers):
     if kind == "NOP":

@@ -1,6 +1,6 @@
 """Writes the files of data/, the arguments, and stdout: what the program must print of them. Run it in this folder.
 
-Each file stands for a point of document 01. Where a refusal is expected it is written here by hand, from the document; paper.py works out the rest, and must
+Each file stands for a point of document 01, or of request One of document 02. Where a refusal is expected it is written here by hand, from the document; paper.py works out the rest, and must
 come to the same refusal. The last files are those of examples/, whose README has their verdicts."""
 import os
 import re
@@ -23,12 +23,14 @@ def num(x, size):
 BENCH = {"period": 1250, "mr2": 0x1A, "R": 8192, "tREFI": 3900000,
          "tRCD": (18000, 3), "tRPpb": (18000, 3), "tRPab": (21000, 3), "tRAS": (42000, 3), "tRRD": (10000, 2), "tFAW": (50000, 8), "tRTP": (7500, 4),
          "tWR": (15000, 4), "tWTR": (7500, 4), "tDQSCK": (5500, 0), "tRFCab": (130000, 0), "tRFCpb": (60000, 0), "tMRR": (0, 4), "tMRW": (0, 10)}
+# tags 19 to 22: 6, 8, 12 and 112 cycles of the bench card
+SLEEPS = {"tCKE": (7500, 3), "tXP": (10000, 3), "tCKESR": (15000, 3), "tXSR": (140000, 2)}
 
 
 def card_fields(**changed):
     c = {**BENCH, **changed}
     out = [field(1, num(c["period"], 4)), field(2, num(c["mr2"], 1)), field(3, num(c["R"], 2)), field(4, num(c["tREFI"], 4))]
-    return out + [field(5 + k, num(c[name][0], 4) + num(c[name][1], 1)) for k, name in enumerate(paper.TIMINGS)]
+    return out + [field(5 + k, num(c[name][0], 4) + num(c[name][1], 1)) for k, name in enumerate(paper.TIMINGS + paper.SLEEPS) if name in c]
 
 
 def card(**changed):
@@ -39,6 +41,8 @@ CKE = 1 << 21
 NOP, NOP_LOW = 3 << 20, CKE | 7
 REFPB, REFAB, PREA = CKE | 4, CKE | 12, CKE | 11 | 1 << 4
 RESERVED = CKE | 3
+# clock-enable low: a fall to power-down, to self-refresh by either refresh, to deep power-down by either HHL; a rise
+DOWN, SELF, SELF_PB, DEEP, DEEP_H, WAKE = 1 << 20, 12, 4, 3, 11, NOP
 
 
 def mrw(ma, op):
@@ -85,18 +89,13 @@ def case(name, data, verdict=None):
     CASES.append((name, data, verdict))
 
 
-def at(k):
-    """The offset of entry k, or of the end behind k entries."""
-    return 135 + 10 * k
-
-
 def good(name, entries, e, **changed):
     case(name, trace(entries, e, card(**changed)))
 
 
 def bad(name, entries, e, number, rule=0, cycle=0, place=None, **changed):
-    place = len(entries) - 1 if place is None else place
-    case(name, trace(entries, e, card(**changed)), "refused %d %d %d %d" % (number, rule, at(place), cycle))
+    place, head = len(entries) - 1 if place is None else place, card(**changed)
+    case(name, trace(entries, e, head), "refused %d %d %d %d" % (number, rule, len(head) + 10 * place, cycle))
 
 
 def bound(name, entries, t, pins, rule, cycle, **changed):
@@ -104,6 +103,10 @@ def bound(name, entries, t, pins, rule, cycle, **changed):
     assert t == cycle - 1
     bad(name + "-early", entries + [(t, pins)], cycle + 20, 10, rule, cycle, **changed)
     good(name + "-good", entries + [(cycle, pins)], cycle + 20, **changed)
+
+
+def sleeper(**changed):
+    return {**SLEEPS, **changed}
 
 
 def bench_cases():
@@ -296,6 +299,165 @@ def form_cases():
                        (155, wr(5, 1)), (200, pre(5)), (210, PREA), (230, REFAB)], 400)
 
 
+def move_cases():
+    """Falls, rises and what lies between them; 16, 8, 6 and 7."""
+    s = SLEEPS
+    low = (0, 0x1FFFFF, 0x0FFFFF, RESERVED & ~CKE, act(3) & ~CKE, SELF, DEEP)
+    for name, fall in (("power-down", DOWN), ("self-refresh", SELF), ("self-refresh-pb", SELF_PB)):
+        good("sleep-" + name, [(10, fall)] + [(11 + k, pins) for k, pins in enumerate(low)] + [(40, WAKE), (41, NOP), (160, act(0))], 200, **s)
+        good("sleep-end-" + name, [(10, fall)], 10, **s)
+        bad("16-rise-" + name, [(10, fall), (40, NOP_LOW)], 60, 16, **s)
+        bad("16-rise-refab-" + name, [(10, fall), (40, REFAB)], 60, 16, **s)
+        bad("16-rise-reserved-" + name, [(10, fall), (40, RESERVED)], 60, 16, **s)
+        bad("16-rise-early-" + name, [(10, fall), (11, act(0))], 60, 16, **s)
+        bad("5-asleep-" + name, [(10, fall), (10, DOWN)], 60, 5, **s)
+        bad("5-end-asleep-" + name, [(10, fall), (12, DOWN)], 11, 5, place=2, **s)
+    good("sleep-bits", [(10, DOWN | 0xFFFFF), (20, WAKE | 0xFFFFF), (40, SELF | 0xFFFF8), (60, WAKE | 3), (200, DEEP_H | 0xFFFF0)], 300, **s)
+    for name, pins in (("mrw", 0), ("mrw-unlisted", 4 << 4), ("mrr", 8), ("act", 2), ("act-h", 6), ("wr", 1), ("rd", 5), ("nop", 7), ("nop-h", 15)):
+        bad("16-fall-" + name, [(10, pins)], 60, 16, **s)
+    bad("16-fall-early", [(10, DOWN), (20, WAKE), (21, act(0) & ~CKE)], 60, 16, **s)
+    bad("16-fall-open", [(0, act(0)), (60, 2)], 70, 16, **s)
+    for name, fall in (("deep", DEEP), ("deep-h", DEEP_H)):
+        good("sleep-" + name, [(10, fall)], 2**32 - 1, **s)
+        for after, pins in (("low", DOWN), ("wake", WAKE), ("nop", NOP_LOW), ("refab", REFAB), ("reserved", RESERVED)):
+            bad("16-%s-%s" % (name, after), [(10, fall), (50000, pins)], 60000, 16, **s)
+        bad("6-22-" + name, [(10, fall), (20, DOWN | 1 << 22)], 60, 6, **s)
+        bad("5-" + name, [(10, fall), (10, DOWN)], 60, 5, **s)
+        bad("8-fall-" + name, [(0, act(5)), (60, fall)], 100, 8, **s)
+    bad("8-fall-self-refresh", [(0, act(5)), (60, SELF)], 100, 8, **s)
+    bad("8-fall-self-refresh-pb", [(0, act(5)), (1, SELF_PB)], 100, 8, **s)
+    good("power-down-open", [(0, act(5)), (15, rd(5)), (16, DOWN), (22, WAKE), (30, rd(5))], 100, **s)
+    for i in (22, 23):
+        for name, before, pins in (("awake", [], NOP), ("fall", [], DOWN), ("asleep", [(10, DOWN)], 7), ("rise", [(10, SELF)], WAKE), ("barred", [], 0)):
+            bad("6-%d-%s" % (i, name), before + [(40, pins | 1 << i)], 60, 6, **s)
+    bad("6-cke-without-tags", [(0, NOP), (10, DOWN)], 60, 6)
+    bad("7-with-tags", [(0, RESERVED)], 60, 7, **s)
+    good("all-kinds-asleep", [(0, mrw(1, 3)), (1, DOWN), (7, WAKE), (15, REFAB), (16, DOWN), (22, WAKE), (119, PREA), (120, DOWN), (126, WAKE), (136, SELF), (148, WAKE),
+                              (260, REFPB), (308, DEEP)], 400, **s)
+
+
+def sleep_rule_cases():
+    """Rules 21 to 24, and the delays of a fall to self-refresh or deep power-down."""
+    s, slept, woken = SLEEPS, [(10, DOWN), (20, WAKE)], [(10, SELF), (30, WAKE)]
+    bound("rule21-power-down", [(10, DOWN)], 15, WAKE, 21, 16, **s)
+    bound("rule21-asleep", [(10, DOWN), (12, 5)], 15, WAKE, 21, 16, **s)
+    bound("rule21-self-refresh", [(10, SELF)], 29, WAKE, 21, 30, **sleeper(tCKE=(25000, 3)))
+    bad("rule21-before-23", [(10, SELF), (15, WAKE)], 60, 10, 21, 16, **s)
+    bound("rule21-again", slept, 25, DOWN, 21, 26, **s)
+    bound("rule21-after-self-refresh", woken, 35, DOWN, 21, 36, **s)
+    bad("rule21-before-22", slept + [(25, SELF)], 60, 10, 21, 26, **s)
+    bad("rule3-before-21", [(0, REFAB)] + slept + [(25, SELF)], 200, 10, 3, 104, **s)
+    good("rule21-first", [(0, DOWN)], 0, **s)
+    for name, pins in (("act", act(0)), ("mrr", mrr(0)), ("prea", PREA), ("refpb", REFPB), ("mrw", mrw(1, 3)), ("self-refresh", SELF), ("deep", DEEP)):
+        bound("rule22-" + name, slept, 27, pins, 22, 28, **s)
+        bound("rule24-" + name, woken, 141, pins, 24, 142, **s)
+    good("rule22-nop", slept + [(21, NOP), (22, NOP_LOW), (26, DOWN)], 60, **s)
+    good("rule24-nop", woken + [(31, NOP), (32, NOP_LOW), (36, DOWN)], 60, **s)
+    bound("rule22-open", [(0, act(0))] + slept, 27, rd(0), 22, 28, **s)
+    bound("rule23", [(10, SELF)], 21, WAKE, 23, 22, **s)
+    bound("rule23-pb", [(10, SELF_PB), (20, DEEP)], 21, WAKE, 23, 22, **s)
+    both = woken + [(36, DOWN), (42, WAKE)]
+    bad("rule22-before-24", both + [(49, act(0))], 200, 10, 22, 50, **s)
+    bound("rule24-from-its-own-exit", both, 141, act(0), 24, 142, **s)
+    bound("rule22-from-its-own-exit", [(10, DOWN), (20, WAKE), (28, SELF), (60, WAKE)], 171, act(0), 24, 172, **s)
+    bound("rule22-latest", slept + [(26, DOWN), (32, WAKE)], 39, act(0), 22, 40, **s)
+    falls = [SELF, DEEP, SELF_PB, DEEP_H]
+    for k, (rule, before, cycle) in enumerate((
+            (1, [(0, mrw(1, 3))], 10), (2, [(0, mrr(0))], 4), (3, [(0, REFAB)], 104), (4, [(0, REFPB)], 48), (5, [(0, pre(3))], 15), (6, [(0, PREA)], 17),
+            (9, [(0, act(0)), (15, rd(0, 1))], 48), (16, [(0, act(6)), (30, rd(6, 1))], 51), (18, [(0, act(1)), (15, wr(1, 1))], 53))):
+        for fall in (falls[k % 4], falls[(k + 1) % 4]):
+            bound("fall-rule%d-%d" % (rule, fall), before, cycle - 1, fall, rule, cycle, **s)
+        good("power-down-rule%d" % rule, before + [(before[-1][0] + 1, DOWN)], 100, **s)
+    # as an earlier entry it is nothing: no rule 3, 4 or 10 counts from it
+    free = sleeper(tXSR=(0, 0), tCKESR=(0, 0), tCKE=(0, 1))
+    good("fall-is-no-refresh", [(10, SELF), (11, WAKE), (12, act(0))], 60, **free)
+    good("fall-is-no-refresh-pb", [(10, SELF_PB), (11, WAKE), (12, REFPB), (20, act(1))], 60, **free)
+    good("sleep-no-delays", [(0, DOWN), (1, WAKE), (2, SELF), (3, WAKE), (4, act(0)), (5, DOWN), (6, WAKE), (19, rd(0))], 30, **sleeper(**{k: (0, 0) for k in SLEEPS}))
+    good("sleep-most", [(0, DOWN), (800, WAKE), (1600, SELF), (2400, WAKE), (3200, act(0))], 3210, **{k: (1000000, 255) for k in SLEEPS})
+    bound("sleep-floors", [(0, DOWN)], 254, WAKE, 21, 255, **{k: (0, 255) for k in SLEEPS})
+    bound("sleep-rounds-up", [(0, DOWN)], 6, WAKE, 21, 7, **sleeper(tCKE=(7501, 3)))
+
+
+def sleep_account_cases():
+    """Which cycles count, and the round counter."""
+    s, i = SLEEPS, 3120
+    good("due-at-the-fall", [(i, SELF)], 4000, **s)
+    good("due-after-the-fall", [(i - 1, SELF)], 2**32 - 1, **s)
+    good("due-at-the-exit", [(i - 1, SELF), (4000, WAKE)], 4000, **s)
+    good("due-after-the-exit", [(i - 1, SELF), (4000, WAKE)], 4001, **s)
+    good("due-at-the-deep-fall", [(i, DEEP)], 50000, **s)
+    good("due-in-power-down", [(10, DOWN)], 2 * i, **s)
+    slept = [(100, SELF), (5000, 0), (100100, WAKE)]
+    good("self-refresh-uncounted", slept, 100000 + 9 * i - 1, **s)
+    bad("self-refresh-uncounted-late", slept, 100000 + 9 * i, 11, 19, 100000 + 9 * i, place=3, **s)
+    bad("self-refresh-uncounted-entry", slept + [(200000, 0)], 200001, 11, 19, 100000 + 9 * i, **s)
+    good("self-refresh-twice", slept + [(100300, SELF_PB), (200300, WAKE)], 200000 + 9 * i - 1, **s)
+    bad("self-refresh-twice-late", slept + [(100300, SELF_PB), (200300, WAKE)], 200000 + 9 * i, 11, 19, 200000 + 9 * i, place=5, **s)
+    eight = [(104 * k, REFAB) for k in range(8)] + [(832, SELF), (100832, WAKE)]
+    good("gap-uncounted", eight, 128808, **s)
+    bad("gap-uncounted-late", eight, 128809, 11, 20, 128809, place=10, **s)
+    good("gap-from-a-later-refresh", eight + [(100944, REFAB)], 100944 + 9 * i, **s)
+    bad("gap-from-a-later-refresh-late", eight + [(100944, REFAB)], 100944 + 9 * i + 1, 11, 20, 100944 + 9 * i + 1, place=11, **s)
+    good("power-down-counted", [(10, DOWN)], 9 * i - 1, **s)
+    bad("power-down-counted-late", [(10, DOWN)], 9 * i, 11, 19, 9 * i, place=1, **s)
+    for name, pins in (("asleep", 0), ("rise", WAKE)):
+        good("power-down-%s-before-failing" % name, [(10, DOWN), (9 * i - 1, pins)], 9 * i - 1, **s)
+        bad("power-down-%s-at-failing" % name, [(10, DOWN), (9 * i, pins)], 9 * i + 5, 11, 19, 9 * i, **s)
+        bad("power-down-%s-after-failing" % name, [(10, DOWN), (9 * i + 1, pins)], 9 * i + 5, 11, 19, 9 * i, **s)
+    bad("power-down-gap", [(104 * k, REFAB) for k in range(8)] + [(729, DOWN)], 28809, 11, 20, 28809, place=9, **s)
+    for name, fall in (("self-refresh", SELF), ("deep", DEEP)):
+        good(name + "-before-failing", [(9 * i - 1, fall)], 10 * i, **s)
+        bad(name + "-at-failing", [(9 * i, fall)], 10 * i, 11, 19, 9 * i, **s)
+        bad(name + "-after-failing", [(9 * i + 1, fall)], 10 * i, 11, 19, 9 * i, **s)
+    good("failing-put-off", [(9 * i - 1, SELF), (40000, 0), (50000, WAKE)], 50000, **s)
+    bad("failing-put-off-late", [(9 * i - 1, SELF), (40000, 0), (50000, WAKE)], 50001, 11, 19, 50001, place=3, **s)
+    good("failing-put-off-refreshed", [(9 * i - 1, SELF), (50000, WAKE), (50001, REFAB)], 50002, **sleeper(tXSR=(0, 0)))
+    bad("order-16-at-failing", [(10, DOWN), (9 * i, NOP_LOW)], 9 * i, 16, **s)
+    bad("order-11-16", [(10, DOWN), (9 * i + 1, NOP_LOW)], 9 * i + 1, 11, 19, 9 * i, **s)
+    bad("order-6-16", [(10, DEEP), (20, NOP | 1 << 23)], 30, 6, **s)
+    bad("order-6-at-failing-asleep", [(10, DOWN), (9 * i, 1 << 22)], 9 * i, 6, **s)
+    bad("order-8-at-failing-fall", [(9 * i - 100, act(0)), (9 * i, SELF)], 9 * i, 8, **s)
+    bad("order-21-at-failing", [(9 * i - 1, DOWN), (9 * i, WAKE)], 9 * i, 10, 21, 9 * i + 5, **s)
+    bad("order-8-10-fall", [(0, act(0)), (5, SELF)], 60, 8, **s)
+    bad("order-5-16", [(10, DEEP), (10, NOP)], 30, 5, **s)
+    three = [(48 * k, REFPB) for k in range(3)]
+    good("round-over-self-refresh", three + [(144, SELF), (160, WAKE), (272, REFPB)], 400, **s)
+    good("round-over-power-down", three + [(144, DOWN), (160, WAKE), (272, REFPB)], 400, **s)
+    seven = [(48 * k, REFPB) for k in range(7)]
+    good("round-begun-anew", seven + [(336, SELF), (350, WAKE)] + [(462 + 48 * k, REFPB) for k in range(7)], 9 * i + 13, **s)
+    bad("round-begun-anew-late", seven + [(336, SELF), (350, WAKE)] + [(462 + 48 * k, REFPB) for k in range(7)], 9 * i + 14, 11, 19, 9 * i + 14, place=16, **s)
+    good("round-begun-and-ended", seven + [(336, SELF), (350, WAKE)] + [(462 + 48 * k, REFPB) for k in range(8)], 9 * i + 14, **s)
+    good("round-not-stepped", three + [(144, SELF_PB)], 400, **s)
+    good("far-asleep", [(0, act(0)), (40, PREA), (60, SELF), (2**32 - 200, WAKE), (2**32 - 88, REFAB)], 2**32 - 1, **s)
+    bad("far-awake", [(60, SELF), (2**32 - 2, WAKE), (2**32 - 1, act(0))], 2**32 - 1, 10, 24, 2**32 + 110, **s)
+    bad("far-rise", [(2**32 - 20, SELF), (2**32 - 10, WAKE)], 2**32 - 1, 11, 19, 9 * i, place=0, **s)
+
+
+def sleep_tag_cases():
+    fields = card_fields(**SLEEPS)
+    sleeps, bench = fields[18:], b"".join(fields[:18])
+    more = trace([(10, DOWN)], 60, b"")
+    for k, tag in enumerate((19, 20, 21, 22)):
+        others = b"".join(f for f in sleeps if f != sleeps[k])
+        # without it: refused where another stands in its place
+        case("2-without-%d" % tag, bench + others + more, "refused 2 0 %d 0" % (135 + 8 * k))
+        case("2-twice-%d" % tag, bench + b"".join(sleeps[:k + 1]) + b"".join(sleeps[k:]) + more, "refused 2 0 %d 0" % (143 + 8 * k))
+        case("2-behind-an-entry-%d" % tag, bench + entry(0, NOP) + b"".join(sleeps[k:]) + end(5), "refused 2 0 145 0")
+        case("2-again-%d" % tag, bench + b"".join(sleeps) + sleeps[k] + more, "refused 2 0 167 0")
+        case("2-in-the-card-%d" % tag, b"".join(fields[:17]) + sleeps[k], "refused 2 0 127 0")
+        case("1-cut-%d" % tag, bench + b"".join(sleeps[:k]) + sleeps[k][:7], "refused 1 0 %d 0" % (135 + 8 * k))
+        case("1-ends-before-%d" % tag, bench + b"".join(sleeps[:k]), "refused 1 0 %d 0" % (135 + 8 * k))
+        case("3-%d" % tag, bench + b"".join(sleeps[:k]) + bytes([tag, 0, 4]) + num(0, 4), "refused 3 0 %d 0" % (135 + 8 * k))
+        case("4-%d" % tag, card(**sleeper(**{paper.SLEEPS[k]: (1000001, 0)})) + more, "refused 4 0 %d 0" % (135 + 8 * k))
+        case("2-23-in-place-of-%d" % tag, bench + b"".join(sleeps[:k]) + bytes([23]), "refused 2 0 %d 0" % (135 + 8 * k))
+    for k in (1, 2, 3):
+        case("2-entry-behind-%d" % (18 + k), bench + b"".join(sleeps[:k]) + more, "refused 2 0 %d 0" % (135 + 8 * k))
+        case("2-end-behind-%d" % (18 + k), bench + b"".join(sleeps[:k]) + end(5), "refused 2 0 %d 0" % (135 + 8 * k))
+    case("2-23-behind-22", bench + b"".join(sleeps) + bytes([23, 0, 1, 3]), "refused 2 0 167 0")
+    case("12-tag-behind-the-end", trace([], 5) + b"".join(sleeps), "refused 12 0 142 0")
+    good("tags-and-no-sleep", [(0, act(0)), (15, rd(0))], 20, **SLEEPS)
+
+
 def example_cases():
     """The traces of examples/, made of their texts, with the verdicts of the table in its README; examples/NAME.trace is a link to the file here."""
     folder = "../../examples/"
@@ -308,11 +470,10 @@ def example_cases():
         case("example-" + name, data, verdict)
 
 
-def small():
-    return trace([(0, act(0)), (15, rd(0))], 20)
+SMALL = {"cuts": trace([(0, act(0)), (15, rd(0))], 20), "cuts-asleep": trace([(0, DOWN), (15, WAKE), (23, act(0))], 40, card(**SLEEPS))}
 
-
-for build in (bench_cases, rule_cases, mr2_cases, refusal_cases, order_cases, account_cases, form_cases, example_cases):
+for build in (bench_cases, rule_cases, mr2_cases, refusal_cases, order_cases, account_cases, form_cases, move_cases, sleep_rule_cases, sleep_account_cases,
+              sleep_tag_cases, example_cases):
     build()
 
 shutil.rmtree("data", ignore_errors=True)
@@ -329,11 +490,12 @@ for name, data, verdict in CASES:
     with open("data/" + name, "wb") as f:
         f.write(data)
     out += [name] + lines + lines[-1:]
-with open("data/cuts", "wb") as f:
-    f.write(small())
-out += ["cuts"] + [paper.judge(small()[:k])[-1] for k in range(len(small()) + 1)]
+for name, data in SMALL.items():
+    with open("data/" + name, "wb") as f:
+        f.write(data)
+    out += [name] + [paper.judge(data[:k])[-1] for k in range(len(data) + 1)]
 with open("args", "w") as f:
-    f.write("".join("%s\n" % n for n in names) + "--cuts\ncuts\n")
+    f.write("".join("%s\n" % n for n in names) + "--cuts\n" + "".join("%s\n" % n for n in SMALL))
 with open("stdout", "w") as f:
     f.write("".join(x + "\n" for x in out))
 print(len(CASES), "files")

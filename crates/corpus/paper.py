@@ -1,7 +1,9 @@
-"""Document 01 in Python, over the list of entries: slow and plain, written from the document alone. It knows nothing of the Rattle code."""
+"""Document 01 with request One of document 02 in Python, over the list of entries and cycle by cycle: slow and plain, written from the documents alone. It knows
+nothing of the Rattle code."""
 
 TIMINGS = ["tRCD", "tRPpb", "tRPab", "tRAS", "tRRD", "tFAW", "tRTP", "tWR", "tWTR", "tDQSCK", "tRFCab", "tRFCpb", "tMRR", "tMRW"]
-SIZES = {1: 4, 2: 1, 3: 2, 4: 4, **{5 + k: 5 for k in range(14)}, 32: 7, 33: 4}
+SLEEPS = ["tCKE", "tXP", "tCKESR", "tXSR"]
+SIZES = {1: 4, 2: 1, 3: 2, 4: 4, **{5 + k: 5 for k in range(18)}, 32: 7, 33: 4}
 #       code: (least ps, RL, WL A, WL B)
 ROWS = {1: (6000, 3, 1, 1), 4: (2500, 6, 3, 3), 6: (1875, 8, 4, 4), 7: (1670, 9, 5, 5), 8: (1500, 10, 6, 8), 9: (1360, 11, 6, 9),
         10: (1250, 12, 6, 9), 12: (1071, 14, 8, 11), 14: (938, 16, 8, 13)}
@@ -28,14 +30,14 @@ class Card:
     """Fields by tag, as they come; a timing is (duration, floor)."""
 
     def __init__(self):
-        self.timing = {}
+        self.timing, self.sleeps = {}, False
 
     def n(self, name):
         d, f = self.timing[name]
         return max(f, up(d, self.period))
 
     def delays(self):
-        self.t = {k: self.n(k) for k in TIMINGS}
+        self.t = {k: self.n(k) for k in self.timing}
         (a, f), (b, g) = self.timing["tRAS"], self.timing["tRPpb"]
         self.t["tRC"] = max(f + g, up(a + b, self.period))
         self.interval = self.trefi // self.period
@@ -55,19 +57,46 @@ class Card:
             self.trefi = x
             return self.period <= x <= 20000000
         d = int.from_bytes(value[:4], "big")
-        self.timing[TIMINGS[tag - 5]] = (d, value[4])
+        self.timing[(TIMINGS + SLEEPS)[tag - 5]] = (d, value[4])
+        self.sleeps = self.sleeps or tag >= 19
         return d <= 1000000
 
 
 class Cmd:
-    def __init__(self, kind, bank=None, ap=False, ma=0, op=0):
-        self.kind, self.bank, self.ap, self.ma, self.op = kind, bank, ap, ma, op
+    """What an entry is. Beside the commands: FALL (`level` says where to), LOW (asleep) and RISE (`level` says where from)."""
+
+    def __init__(self, kind, bank=None, ap=False, ma=0, op=0, level=None):
+        self.kind, self.bank, self.ap, self.ma, self.op, self.level = kind, bank, ap, ma, op, level
+
+    def like(self):
+        """The command whose bank states and delays it has as the later entry."""
+        if self.kind == "FALL" and self.level != "power-down":
+            return "REFAB"
+        return "NOP" if self.kind in ("FALL", "LOW", "RISE") else self.kind
+
+
+def read(pins, sleeps, level):
+    """What an entry is at this level, or the number 6, 7 or 16."""
+    if pins >> 22 or not sleeps and not pins >> 21 & 1:
+        return 6
+    cke, cs_n, ca = pins >> 21 & 1, pins >> 20 & 1, [pins >> i & 1 for i in range(4)]
+    if level == "deep":
+        return 16
+    if level == "awake":
+        if cke:
+            return decode(pins)
+        if cs_n:
+            return Cmd("FALL", level="power-down")
+        if ca[:3] == [0, 0, 1]:
+            return Cmd("FALL", level="self-refresh")
+        return Cmd("FALL", level="deep") if ca[:3] == [1, 1, 0] else 16
+    if not cke:
+        return Cmd("LOW")
+    return Cmd("RISE", level=level) if cs_n else 16
 
 
 def decode(pins):
-    """A command, or the number 6 or 7."""
-    if pins >> 21 != 1:
-        return 6
+    """A command, or the number 7."""
     bit = lambda i: pins >> i & 1
     run = lambda i, k: pins >> i & (1 << k) - 1
     if bit(20):
@@ -107,13 +136,18 @@ def latest(past, test):
     return None
 
 
+def level_after(past):
+    move = latest(past, lambda e: e.cmd.kind in ("FALL", "RISE"))
+    return move.cmd.level if move is not None and move.cmd.kind == "FALL" else "awake"
+
+
 def precharge(past, b):
     return latest(past, lambda e: e.cmd.kind == "PREA" or e.cmd.kind == "PRE" and e.bank == b)
 
 
 def bounds(card, past, cmd, counter):
     """(rule, first permitted cycle), for each entry that a rule counts from."""
-    t, k = card.t, cmd.kind
+    t, k = card.t, cmd.like()
     bank = counter if k == "REFPB" else cmd.bank
     every = range(8)
     idle = every if k in ("REFAB", "MRW") else [bank] if k in ("ACT", "REFPB") else []
@@ -161,6 +195,24 @@ def bounds(card, past, cmd, counter):
     if k == "WR":
         rule(12, of("WR"), 4)
         rule(13, latest(past, lambda e: e.cmd.kind in ("RD", "MRR")), lambda e: rl(e.mr2) + t["tDQSCK"] + 5 - wl(e.mr2))
+    return out + (sleep_bounds(t, past, cmd) if card.sleeps else [])
+
+
+def sleep_bounds(t, past, cmd):
+    fall = latest(past, lambda e: e.cmd.kind == "FALL")
+    rise = latest(past, lambda e: e.cmd.kind == "RISE")
+    out = []
+    if cmd.kind == "RISE":
+        out.append((21, fall.t + t["tCKE"]))
+        if cmd.level == "self-refresh":
+            out.append((23, fall.t + t["tCKESR"]))
+    if cmd.kind == "FALL" and rise is not None:
+        out.append((21, rise.t + t["tCKE"]))
+    if cmd.like() != "NOP":
+        for n, where, delay in ((22, "power-down", t["tXP"]), (24, "self-refresh", t["tXSR"])):
+            leaves = latest(past, lambda e: e.cmd.kind == "RISE" and e.cmd.level == where)
+            if leaves is not None:
+                out.append((n, leaves.t + delay))
     return out
 
 
@@ -173,34 +225,41 @@ def first_broken(card, past, cmd, counter, t):
 
 
 class Account:
-    """The ledger as after cycle `at`, and the last counted refresh."""
+    """The ledger after cycle `at`. `count` is the number of counted cycles after cycle 0, and `last` what it was at the last counted refresh."""
 
     def __init__(self, interval):
-        self.i, self.at, self.owed, self.last = interval, 0, 0, 0
+        self.i, self.at, self.owed, self.count, self.last = interval, 0, 0, 0, 0
 
-    def first_failing(self, upto):
-        """The first cycle after `at` and not after `upto` at which 19 or 20 fails in idle time."""
-        found = []
-        gap = self.last + 9 * self.i + 1
-        if gap <= upto:
-            found.append((max(gap, self.at + 1), 20))
-        ninth = (self.at // self.i + 9 - self.owed) * self.i
-        if ninth <= upto:
-            found.append((ninth, 19))
-        return min(found) if found else None
+    def copy(self):
+        other = Account(self.i)
+        other.__dict__.update(self.__dict__)
+        return other
 
-    def move(self, t):
-        self.owed += t // self.i - self.at // self.i
-        self.at = t
+    def tick(self, counted):
+        self.at += 1
+        if counted:
+            self.count += 1
+            self.owed += self.count % self.i == 0
 
     def refresh(self):
         self.owed = max(-8, self.owed - 1)
-        self.last = self.at
+        self.last = self.count
 
-    def fails_here(self):
+    def fails(self):
+        """The rule that fails after this cycle, or 0."""
         if self.owed > 8:
             return 19
-        return 20 if self.at - self.last > 9 * self.i else 0
+        return 20 if self.count - self.last > 9 * self.i else 0
+
+    def idle(self, upto, counted):
+        """Goes on through `upto`, or to the first cycle that fails: then (rule, cycle)."""
+        if not counted:
+            self.at = max(self.at, upto)
+        while self.at < upto:
+            self.tick(True)
+            if self.fails():
+                return self.fails(), self.at
+        return None
 
 
 class Judge:
@@ -209,8 +268,12 @@ class Judge:
         self.card, self.past, self.account = card, [], Account(card.interval)
         self.open, self.counter, self.mr2 = set(), 0, card.mr2
 
+    def counts_next(self):
+        """Whether the cycles after the last entry count, as long as nothing else comes."""
+        return level_after(self.past) in ("awake", "power-down")
+
     def state_good(self, cmd):
-        k = cmd.kind
+        k = cmd.like()
         if k == "ACT":
             return cmd.bank not in self.open
         if k in ("RD", "WR"):
@@ -223,10 +286,11 @@ class Judge:
         """None, or (number, rule, cycle)."""
         if self.past and t <= self.past[-1].t:
             return 5, 0, 0
-        late = self.account.first_failing(t - 1)
+        account = self.account.copy()
+        late = account.idle(t - 1, self.counts_next())
         if late:
-            return 11, late[1], late[0]
-        cmd = decode(pins)
+            return 11, *late
+        cmd = read(pins, self.card.sleeps, level_after(self.past))
         if isinstance(cmd, int):
             return cmd, 0, 0
         if not self.state_good(cmd):
@@ -236,14 +300,12 @@ class Judge:
         broken = first_broken(self.card, self.past, cmd, self.counter, t)
         if broken:
             return 10, broken[0], broken[1]
-        counted = cmd.kind == "REFAB" or cmd.kind == "REFPB" and self.counter == 7
-        account = Account(self.card.interval)
-        account.at, account.owed, account.last = self.account.at, self.account.owed, self.account.last
-        account.move(t)
-        if counted:
+        if account.at < t:
+            account.tick(self.counts_next())
+        if cmd.kind == "REFAB" or cmd.kind == "REFPB" and self.counter == 7:
             account.refresh()
-        if account.fails_here():
-            return 11, account.fails_here(), t
+        if account.fails():
+            return 11, account.fails(), t
         self.account = account
         self.change(Entry(t, cmd, self.mr2, self.counter))
         return None
@@ -257,7 +319,7 @@ class Judge:
             self.open.discard(e.bank)
         if k == "PREA":
             self.open.clear()
-        if k == "REFAB":
+        if k == "REFAB" or k == "RISE" and e.cmd.level == "self-refresh":
             self.counter = 0
         if k == "REFPB":
             self.counter = (self.counter + 1) % 8
@@ -267,23 +329,29 @@ class Judge:
     def end(self, e):
         if self.past and e < self.past[-1].t:
             return 5, 0, 0
-        late = self.account.first_failing(e)
-        return (11, late[1], late[0]) if late else None
+        late = self.account.idle(e, self.counts_next())
+        return (11, *late) if late else None
 
-    def counts(self, e):
-        self.account.move(e)
-        commands = sum(x.cmd.kind != "NOP" for x in self.past)
+    def counts(self):
+        commands = sum(x.cmd.kind not in ("NOP", "FALL", "LOW", "RISE") for x in self.past)
         counted = sum(x.cmd.kind == "REFAB" or x.cmd.kind == "REFPB" and x.counter == 7 for x in self.past)
         return commands, counted, self.account.owed
 
     def line(self, e):
-        name = e.cmd.kind + ("A" if e.cmd.ap else "")
+        name = "NOP" if e.cmd.kind in ("FALL", "LOW", "RISE") else e.cmd.kind + ("A" if e.cmd.ap else "")
         return "%d %s %s" % (e.t, name, "-" if e.bank is None else e.bank)
+
+
+def may_come(last):
+    """The tags that may stand behind this one; 19 to 22 come all four or not at all."""
+    if last < 18 or 19 <= last < 22:
+        return (last + 1,)
+    return (19, 32, 33) if last == 18 else (32, 33)
 
 
 def judge(data):
     """The lines of a file, the verdict last."""
-    lines, at, tag, card, run = [], 0, 1, Card(), None
+    lines, at, last, card, run = [], 0, 0, Card(), None
 
     def refused(n, rule=0, cycle=0, offset=None):
         return lines + ["refused %d %d %d %d" % (n, rule, at if offset is None else offset, cycle)]
@@ -292,7 +360,7 @@ def judge(data):
         if at == len(data):
             return refused(1)
         got = data[at]
-        if got not in ((32, 33) if tag > 18 else (tag,)):
+        if got not in may_come(last):
             return refused(2)
         if len(data) < at + 3:
             return refused(1)
@@ -302,18 +370,17 @@ def judge(data):
         value = data[at + 3:at + 3 + size]
         if len(value) < size:
             return refused(1)
-        if got <= 18:
+        if got <= 22:
             if not card.take(got, value):
                 return refused(4)
-            tag += 1
-            if tag > 18:
-                run = Judge(card)
-        elif got == 32:
+        elif run is None:
+            run = Judge(card)
+        if got == 32:
             bad = run.entry(int.from_bytes(value[:4], "big"), int.from_bytes(value[4:], "big"))
             if bad:
                 return refused(*bad)
             lines.append(run.line(run.past[-1]))
-        else:
+        elif got == 33:
             e = int.from_bytes(value, "big")
             bad = run.end(e)
             if bad:
@@ -321,5 +388,5 @@ def judge(data):
             behind = at + 3 + size
             if behind < len(data):
                 return refused(12, offset=behind)
-            return lines + ["accepted %d %d %d" % run.counts(e)]
-        at += 3 + size
+            return lines + ["accepted %d %d %d" % run.counts()]
+        at, last = at + 3 + size, got

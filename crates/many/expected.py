@@ -1,6 +1,7 @@
-"""Writes stdin and stdout: a stream of traces, and the verdict of each by corpus/paper.py, which is written from document 01. Run it in this folder.
+"""Writes stdin and stdout: a stream of traces, and the verdict of each by corpus/paper.py, which is written from the documents. Run it in this folder.
 
-The traces are the files of corpus/data and two that are longer than the program's buffer: one is accepted, of the other all behind an early entry is passed over."""
+The traces are the files of corpus/data and three that are longer than the program's buffer: one is accepted, so is one with sleeps, and of one all behind an early
+entry is passed over."""
 import os
 import sys
 
@@ -10,6 +11,7 @@ import paper
 
 CKE, NOP = 1 << 21, 3 << 20
 ACT, RD, PRE, REFAB = CKE | 2, CKE | 5, CKE | 11, CKE | 12
+DOWN, SELF, WAKE = 1 << 20, 12, NOP
 
 
 def corpus(name):
@@ -22,18 +24,26 @@ def pins(k):
     return {0: REFAB, 100: ACT, 150: RD, 200: PRE}.get(k % 780, NOP)
 
 
-def long(changed=()):
+def sleeping_pins(k):
+    """Likewise, with a self-refresh and a power-down in each interval and entries asleep."""
+    moves = {300: SELF, 400: WAKE, 500: DOWN, 600: WAKE}
+    asleep = 300 < k % 780 < 400 or 500 < k % 780 < 600
+    return moves.get(k % 780, k & 0xFF if asleep else pins(k))
+
+
+def long(changed=(), pins=pins, card=corpus("1-no-end")):
     """An entry every four cycles behind the bench card; some are changed."""
     entries = {**{k: pins(k) for k in range(6600)}, **dict(changed)}
-    out = [corpus("1-no-end")]
+    out = [card]
     out += [bytes([32, 0, 7]) + (4 * k).to_bytes(4, "big") + p.to_bytes(3, "big") for k, p in sorted(entries.items())]
     return b"".join(out) + bytes([33, 0, 4]) + (4 * 6600).to_bytes(4, "big")
 
 
 traces = [corpus(name) for name in sorted(os.listdir("../corpus/data"))]
-traces += [long(), long({160: ACT}.items()), corpus("bench-example")]
+traces += [long(), long(pins=sleeping_pins, card=corpus("tags-and-no-sleep")[:167]), long({160: ACT}), corpus("bench-example")]
 verdicts = [paper.judge(t)[-1] for t in traces]
-assert len(traces[-2]) > 65536 and verdicts[-3].startswith("accepted") and verdicts[-2] == "refused 8 0 %d 0" % (135 + 1600)
+assert len(traces[-2]) > 65536 and verdicts[-2] == "refused 8 0 %d 0" % (135 + 1600)
+assert verdicts[-4] == "accepted 36 9 -1" and verdicts[-3] == "accepted 36 9 -2", verdicts[-4:]
 with open("stdin", "wb") as f:
     f.write(b"".join(len(t).to_bytes(4, "big") + t for t in traces))
 with open("stdout", "w") as f:

@@ -1,19 +1,22 @@
 #!/usr/bin/env python3
-# What singles is to write, from document 01: its rules over the list of earlier entries, its account cycle by cycle; and its table of calls.
+# What singles is to write, from document 01 and request One of document 02: the rules over the list of earlier entries, the account cycle by cycle; and its table
+# of calls.
 #   python3 crates/singles/expected.py > crates/singles/stdout
 #   python3 crates/singles/expected.py table > crates/singles/src/table.rt
 import importlib.util, pathlib, sys
 
-# document 01's pins, one by one
+# the pins, one by one
 spec = importlib.util.spec_from_file_location("allpins", pathlib.Path(__file__).parents[1] / "allpins" / "expected.py")
 allpins = importlib.util.module_from_spec(spec)
 spec.loader.exec_module(allpins)
 
-TIMINGS = "tRCD tRPpb tRPab tRAS tRRD tFAW tRTP tWR tWTR tDQSCK tRFCab tRFCpb tMRR tMRW".split()
+TIMINGS = "tRCD tRPpb tRPab tRAS tRRD tFAW tRTP tWR tWTR tDQSCK tRFCab tRFCpb tMRR tMRW tCKE tXP tCKESR tXSR".split()
+LEVELS = ["awake", "power-down", "self-refresh", "deep"]
 BENCH = {
     "period": 1250, "mr2": 0x1A, "R": 8192, "tREFI": 3900000,
-    "ps": [18000, 18000, 21000, 42000, 10000, 50000, 7500, 15000, 7500, 5500, 130000, 60000, 0, 0],
-    "floor": [3, 3, 3, 3, 2, 8, 4, 4, 4, 0, 0, 0, 4, 10],
+    "ps": [18000, 18000, 21000, 42000, 10000, 50000, 7500, 15000, 7500, 5500, 130000, 60000, 0, 0, 0, 0, 0, 0],
+    "floor": [3, 3, 3, 3, 2, 8, 4, 4, 4, 0, 0, 0, 4, 10, 0, 0, 0, 0],
+    "sleeps": 0,
 }
 # code: least period, RL, WL of set A, of set B
 LATENCIES = {
@@ -52,10 +55,10 @@ def clocks(card):
     return n
 
 
-# ---- the list: each entry with its stamp, its kind, its bank, AP, and MR2 as it stood
+# ---- the list: each entry with its stamp, its kind (FALL, LOW and RISE beside the commands), its bank, AP, MR2 as it stood, and the level that a rise leaves
 class Entry:
-    def __init__(self, stamp, kind, bank, ap, mr2):
-        self.stamp, self.kind, self.bank, self.ap, self.mr2 = stamp, kind, bank, ap, mr2
+    def __init__(self, stamp, kind, bank=None, ap=False, mr2=0, level=None):
+        self.stamp, self.kind, self.bank, self.ap, self.mr2, self.level = stamp, kind, bank, ap, mr2, level
 
     def rl(self):
         return LATENCIES[self.mr2 & 15][1]
@@ -64,42 +67,65 @@ class Entry:
         return LATENCIES[self.mr2 & 15][3 if self.mr2 >> 6 & 1 else 2]
 
 
+def judged_as(kind, numbers):
+    """The command whose bank states and delays an entry has as the later one."""
+    if kind == "FALL" and numbers["level"] != "power-down":
+        return "REFab"
+    return "NOP" if kind in ("FALL", "LOW", "RISE") else kind
+
+
 class Judge:
-    """The list of entries taken so far; `odd` and `noted` are stamps and MR2 values that were put where the record remembers one."""
+    """The list of entries taken so far; `odd` and `noted` are stamps and MR2 values that were put where the record remembers one. The ledger stands at cycle `at`;
+    `since` is a number among the counted cycles, and of those up to `at` `skipped` are not."""
 
     def __init__(self):
         self.card = {k: v[:] if isinstance(v, list) else v for k, v in BENCH.items()}
         self.mr2, self.counter, self.last, self.past = self.card["mr2"], 0, None, []
-        self.at, self.number, self.refreshed = 0, 0, 0
+        self.at, self.number, self.since, self.skipped, self.level = 0, 0, 0, 0, "awake"
         self.odd, self.noted = {}, {}
 
     # ---- 13
     def ledger_good(self):
-        return card_good(self.card) and -8 <= self.number <= 8 and self.refreshed <= self.at
+        return card_good(self.card) and -8 <= self.number <= 8 and self.since <= self.count()
 
     def good(self):
-        stamps = [e.stamp for e in self.past if e.kind != "NOP"] + list(self.odd.values())
+        stamps = [e.stamp for e in self.past if e.kind not in ("NOP", "LOW")] + list(self.odd.values())
         values = [self.mr2] + [e.mr2 for e in self.past if e.kind in ("RD", "WR", "MRR")] + list(self.noted.values())
         by_last = all(self.last is not None and t <= self.last for t in stamps)
         return (self.ledger_good() and all(writable(self.card["period"], v) for v in values) and by_last
                 and (self.last is None or self.last <= self.at) and self.counter <= 7)
 
     # ---- the account
-    def cycle(self, t, ledger, due, counted):
-        number, refreshed = ledger
-        number += due and t % (self.card["tREFI"] // self.card["period"]) == 0
-        return (max(number - 1, -8), t) if counted else (number, refreshed)
+    def count(self):
+        """The number of the cycle where the ledger stands; it can have skipped no more cycles than there were."""
+        return max(self.at - self.skipped, 0)
+
+    def runs(self):
+        return self.level in ("awake", "power-down")
+
+    def interval(self):
+        return self.card["tREFI"] // self.card["period"]
+
+    def due(self, ledger):
+        """One counted cycle on."""
+        number, since, count = ledger
+        return number + ((count + 1) % self.interval() == 0), since, count + 1
 
     def account(self, t, ledger):
-        refuse(ledger[0] > 8, 11, 19, t)
-        refuse(t - ledger[1] > 9 * (self.card["tREFI"] // self.card["period"]), 11, 20, t)
+        number, since, count = ledger
+        refuse(number > 8, 11, 19, t)
+        refuse(count - since > 9 * self.interval(), 11, 20, t)
 
     def idle(self, to):
-        ledger = self.number, self.refreshed
-        for t in range(self.at + 1, to + 1):
-            ledger = self.cycle(t, ledger, True, False)
+        ledger = self.number, self.since, self.count()
+        for t in range(self.at + 1, to + 1 if self.runs() else 0):
+            ledger = self.due(ledger)
             self.account(t, ledger)
         return ledger
+
+    def stand(self, t, ledger):
+        self.number, self.since, count = ledger
+        self.at, self.skipped = t, t - count
 
     # ---- the banks and the delay rules
     def opened(self, bank):
@@ -120,8 +146,11 @@ class Judge:
         found = [e for e in self.past if e.kind in kinds and bank in (None, e.bank) and ap in (None, e.ap)]
         return found[-1:]
 
-    def delays(self, kind, bank):
-        """(rule, first permitted cycle) for each clause of each rule that speaks of this command."""
+    def exit_from(self, level):
+        return [e for e in self.past if e.kind == "RISE" and e.level == level][-1:]
+
+    def delays(self, kind, bank, entry):
+        """(rule, first permitted cycle) for each clause of each rule that speaks of this command, or of this move."""
         n, latest = clocks(self.card), self.latest
         everyone = range(8)
         idle = everyone if kind in ("REFab", "MRW") else [bank] if kind in ("ACT", "REFpb") else []
@@ -163,33 +192,50 @@ class Judge:
             out += after(12, latest(["RD"]), 4) + after(14, latest(["WR"]), lambda e: e.wl() + 5 + n["tWTR"])
         if kind == "WR":
             out += after(12, latest(["WR"]), 4) + after(13, latest(["RD", "MRR"]), lambda e: e.rl() + n["tDQSCK"] + 5 - e.wl())
+        exits = {level: self.exit_from(level) for level in ("power-down", "self-refresh")}
+        if entry == "FALL":
+            out += after(21, exits["power-down"] + exits["self-refresh"], n["tCKE"])
+        if entry == "RISE":
+            out += after(21, latest(["FALL"]), n["tCKE"])
+        if entry == "RISE" and self.level == "self-refresh":
+            out += after(23, latest(["FALL"]), n["tCKESR"])
+        if kind != "NOP":
+            out += after(22, exits["power-down"], n["tXP"]) + after(24, exits["self-refresh"], n["tXSR"])
         return out
 
     # ---- the calls
     def step(self, stamp, pins):
         refuse(not self.good(), 13)
         refuse(self.last is not None and stamp <= self.last or stamp < self.at, 5)
-        before = self.idle(stamp - 1)
-        decoded = allpins.decode(pins)
-        refuse(decoded in (6, 7), decoded)
-        kind, numbers = decoded
+        ledger = self.idle(stamp - 1)
+        read = allpins.read(self.card["sleeps"], self.level, pins)
+        refuse(read in (6, 7, 16), read)
+        kind, numbers = read
         bank = self.counter if kind == "REFpb" else numbers.get("bank")
-        refuse(not self.state_good(kind, bank), 8)
+        like = judged_as(kind, numbers)
+        refuse(not self.state_good(like, bank), 8)
         if kind == "MRW":
             refuse(numbers["ma"] == 1 and numbers["op"] & 7 != 0b011, 9)
             refuse(numbers["ma"] == 2 and not writable(self.card["period"], numbers["op"]), 9)
-        delays = self.delays(kind, bank)
-        for rule in range(1, 19):
+        delays = self.delays(like, bank, kind)
+        for rule in [*range(1, 19), *range(21, 25)]:
             first = max([cycle for r, cycle in delays if r == rule], default=0)
             refuse(stamp < first, 10, rule, first)
-        counted = kind == "REFab" or kind == "REFpb" and self.counter == 7
-        ledger = self.cycle(stamp, before, self.at < stamp, counted)
+        if self.at < stamp and self.runs():
+            ledger = self.due(ledger)
+        if kind == "REFab" or kind == "REFpb" and self.counter == 7:
+            ledger = max(ledger[0] - 1, -8), ledger[2], ledger[2]
         self.account(stamp, ledger)
-        self.past.append(Entry(stamp, kind, bank, bool(numbers.get("ap")), self.mr2))
-        self.last, self.at, (self.number, self.refreshed) = stamp, stamp, ledger
+        self.past.append(Entry(stamp, kind, bank, bool(numbers.get("ap")), self.mr2, self.level))
+        self.last = stamp
+        self.stand(stamp, ledger)
         if kind == "MRW" and numbers["ma"] == 2:
             self.mr2 = numbers["op"]
-        self.counter = 0 if kind == "REFab" else (self.counter + 1) % 8 if kind == "REFpb" else self.counter
+        if kind == "REFpb":
+            self.counter = (self.counter + 1) % 8
+        if kind == "REFab" or kind == "RISE" and self.level == "self-refresh":
+            self.counter = 0
+        self.level = {"FALL": numbers.get("level"), "RISE": "awake"}.get(kind, self.level)
         return "taken"
 
     def end(self, cycle):
@@ -200,11 +246,15 @@ class Judge:
     def move(self, cycle):
         refuse(not self.ledger_good(), 13)
         refuse(cycle < self.at, 5)
-        (self.number, self.refreshed), self.at = self.idle(cycle), cycle
+        self.stand(cycle, self.idle(cycle))
         return self.number
 
+    def put_move(self, kind, level, stamp):
+        """A stamp where the record remembers the latest fall, or the latest exit from a level."""
+        self.past = [e for e in self.past if (e.kind, kind == "RISE" and e.level) != (kind, level)] + [Entry(stamp, kind, level=level)]
+
     def put(self, place, value):
-        if place in ("period", "R", "tREFI"):
+        if place in ("period", "R", "tREFI", "sleeps"):
             self.card[place] = value
         elif place == "starting":
             self.card["mr2"] = value
@@ -216,6 +266,10 @@ class Judge:
             self.last = None if value == "none" else value
         elif place == "four":
             pass  # a count above 4: no refusal, and read as 4
+        elif place == "level":
+            self.level = LEVELS[value]
+        elif place in MOVES:
+            self.put_move(*MOVES[place], value)
         elif place.startswith("at-"):
             self.odd[place] = value
         elif place.startswith("noted-"):
@@ -225,11 +279,21 @@ class Judge:
             setattr(self, place, value)
 
 
-# ---- the cases, as document 01 writes them
+MOVES = {"at-fall": ("FALL", False), "at-power-exit": ("RISE", "power-down"), "at-self-exit": ("RISE", "self-refresh")}
+
+
+# ---- the cases, as the documents write them
+MOVE_PINS = {"POWER-DOWN": 0x100000, "SELF-REFRESH": 0x00000C, "DEEP-POWER-DOWN": 0x000003, "ASLEEP": 0x000000, "WAKE": 0x300000}
+# the bench card with tags 19 to 22: 6, 8, 12 and 112 cycles
+SLEEPER = ["put sleeps 1", "put tCKE 7500", "put tXP 10000", "put tCKESR 15000", "put tXSR 140000"]
+
+
 def pins_of(words):
     kind, numbers = words[0], [int(w, 16) for w in words[1:]]
     if kind == "pins":
         return numbers[0]
+    if kind in MOVE_PINS:
+        return MOVE_PINS[kind]
     names = {"REFPB": "REFpb", "REFAB": "REFab", "RDA": "RD", "WRA": "WR"}
     fields = {"MRW": ("ma", "op"), "MRR": ("ma",), "ACT": ("bank",), "RD": ("bank",), "WR": ("bank",), "PRE": ("bank",)}
     plain = names.get(kind, kind)
@@ -252,7 +316,8 @@ def cases():
     """(case, its calls): a line of cases.txt each, the calls between commas; a line that begins with # says what follows."""
     text = (pathlib.Path(__file__).parent / "cases.txt").read_text()
     lines = [line for line in text.split("\n") if line and not line.startswith("#")]
-    return [(case, [call.strip() for call in line.split(",")]) for case, line in enumerate(lines, 1)]
+    calls = [[call.strip() for call in line.split(",")] for line in lines]
+    return [(case, SLEEPER + line[1:] if line[0] == "sleeper" else line) for case, line in enumerate(calls, 1)]
 
 
 # ---- the calls, as the program has them: two words each
@@ -271,7 +336,7 @@ def words_of(call, names):
         return {"E": "END", "move": "MOVE"}[words[0]], int(words[1])
     if words[0] == "pins":
         return "0x" + words[1].lower(), int(words[-1])
-    name = "MRR" if words[:2] == ["MRR", "0"] else "_".join(words[:-2])
+    name = "MRR" if words[:2] == ["MRR", "0"] else "_".join(words[:-2]).replace("-", "_")
     names[name] = pins_of(words[:-2])
     return name, int(words[-1])
 
@@ -297,7 +362,7 @@ pub const END: u32 = 0x2000001;
 
 pub const MOVE: u32 = 0x2000002;
 
-// Pins: a command with its bank, or with MA and OP in hexadecimal.
+// Pins: a command with its bank, or with MA and OP in hexadecimal; a move of clock-enable.
 %(consts)spub const COUNT: usize = %(count)d;
 
 const WORDS: [u32; %(twice)d] = [

@@ -6,6 +6,7 @@ use mathlib.Core.List.{[], _∷_}
 use lib.Dec.{eqb}
 use lib.ListN.{getD}
 use Rattle.rules.specs.Commands.{Command, MRW, MRR, REFPB, REFAB, ACT, RD, WR, PRE, PREA, is, bankOf, apOf}
+use Rattle.rules.specs.Levels.{Move, isFall, risesFrom, powerDown, selfRefresh}
 use Rattle.rules.specs.Past.{bankAt, precharges}
 use Rattle.rules.specs.Delays.{
   Ask,
@@ -25,18 +26,23 @@ use Rattle.rules.specs.Delays.{
   lastRDA-to,
   lastWR-to,
   lastWRA-to,
+  lastFall,
+  lastPowerExit,
+  lastSelfExit,
   means,
   latestOf,
   laggingOf,
   fourthOf,
   latestIf,
+  latestMove,
   to,
 }
 use Rattle.rules.specs.Lent.{remembered, historyAfter}
 use Rattle.ledger.specs.declared.Ledger.{Ledger}
-use Rattle.bank.specs.Values.{entry, once, each, preOf, preaOf, asked, lentOf}
-use Rattle.bank.specs.After.{AfterArgs, onceIf, fourAfter, latestAfter, busAfter, stampedAfter, banksAfter, recordAfter}
+use Rattle.bank.specs.Values.{entry, once, each, preOf, preaOf, asked, shareOf}
+use Rattle.bank.specs.After.{AfterArgs, onceIf, fourAfter, latestAfter, movesAfter, busAfter, stampedAfter, banksAfter, shareAfter}
 use Rattle.bank.specs.declared.Once.{Once}
+use Rattle.bank.specs.declared.Share.{Share}
 use Rattle.bank.specs.declared.Record.{Record}
 use Rattle.bank.proofs.Sizes.{Whole}
 use Rattle.bank.proofs.Places.{four-after}
@@ -53,17 +59,23 @@ unfolding onceIf
 once-stamp true t x = refl
 once-stamp false t x = refl
 
-module _ (r : Record) (c : Command) (t : ℕ) (g : Ledger) (w : Whole r) (a : AfterArgs r t c) where
-  low : bankAt c (r .counter) ≤ 7
-  low = bank-low c (r .counter) (a .counter) (a .bank)
+module _ (r : Record) (c : Command) (v : Move) (t : ℕ) (g : Ledger) (w : Whole r) (a : AfterArgs r t c) where
+  abbrev s : Share
+  s = r .share
+
+  abbrev k : ℕ
+  k = bankAt c (s .counter)
+
+  low : k ≤ 7
+  low = bank-low c (s .counter) (a .counter) (a .bank)
 
   precharges-are : (b : ℕ)
-      → (preOf (recordAfter r c t g) b ≡ cond (precharges b c) (cond (is PRE c) (entry t 0 ∷ []) []) (preOf r b))
-      × (preaOf (recordAfter r c t g) b ≡ cond (precharges b c) (cond (is PREA c) (entry t 0 ∷ []) []) (preaOf r b))
-  unfolding preOf preaOf each once recordAfter latestAfter banksAfter stampedAfter precharges
+      → (preOf (shareAfter s c v t g) b ≡ cond (precharges b c) (cond (is PRE c) (entry t 0 ∷ []) []) (preOf s b))
+      × (preaOf (shareAfter s c v t g) b ≡ cond (precharges b c) (cond (is PREA c) (entry t 0 ∷ []) []) (preaOf s b))
+  unfolding preOf preaOf each once shareAfter latestAfter banksAfter stampedAfter precharges
   precharges-are b =
-      let p = r .banks .pre in
-      let x = r .latest .prea in
+      let p = s .banks .pre in
+      let x = s .latest .prea in
       rw (
         each-seen (is PRE c) (bankOf c) t b p (a .bank) (w .pre),
         each-at (is PRE c) (bankOf c) t b p (a .bank) (w .pre),
@@ -75,21 +87,24 @@ module _ (r : Record) (c : Command) (t : ℕ) (g : Ledger) (w : Whole r) (a : Af
       (prea-below r t w (a .stamps) (a .rising)))
 
   pub remembers : (q : Ask) (b : ℕ)
-      → asked (recordAfter r c t g) q b ≡ historyAfter c (r .counter) t (r .mr2) (lentOf r .history) (record { ask = q; bank = b })
-  unfolding asked recordAfter latestAfter busAfter fourAfter banksAfter stampedAfter historyAfter remembered means latestOf laggingOf fourthOf latestIf to lentOf
-  remembers lastMRW b = once-after (is MRW c) t (r .latest .mrw)
-  remembers lastMRR b = once-after (is MRR c) t (r .latest .mrr)
-  remembers lastREFab b = once-after (is REFAB c) t (r .latest .refab)
-  remembers lastREFpb b = once-after (is REFPB c) t (r .latest .refpb)
-  remembers lastREFpb-to b = each-after (is REFPB c) (bankAt c (r .counter)) t b (r .banks .refpb) low (w .refpb)
+      → asked (shareAfter s c v t g) q b ≡ historyAfter c v (s .counter) t (s .mr2) (shareOf s .history) (record { ask = q; bank = b })
+  unfolding asked shareAfter latestAfter movesAfter busAfter fourAfter banksAfter stampedAfter historyAfter remembered means latestOf laggingOf fourthOf latestIf latestMove to shareOf
+  remembers lastMRW b = once-after (is MRW c) t (s .latest .mrw)
+  remembers lastMRR b = once-after (is MRR c) t (s .latest .mrr)
+  remembers lastREFab b = once-after (is REFAB c) t (s .latest .refab)
+  remembers lastREFpb b = once-after (is REFPB c) t (s .latest .refpb)
+  remembers lastREFpb-to b = each-after (is REFPB c) k t b (s .banks .refpb) low (w .refpb)
   remembers lastPRE-to b = precharges-are b .0
   remembers lastPREA-to b = precharges-are b .1
-  remembers lastACT-to b = each-after (is ACT c) (bankAt c (r .counter)) t b (r .banks .act) low (w .act)
+  remembers lastACT-to b = each-after (is ACT c) k t b (s .banks .act) low (w .act)
   remembers fourthLast b = four-after (is ACT c || is REFPB c) t _
-  remembers lastRD b = once-after (is RD c) t (r .bus .rd)
-  remembers lastWR b = noted-after (is WR c) t (r .mr2) (r .bus .wr)
-  remembers lastRDorMRR b = noted-after (is RD c || is MRR c) t (r .mr2) (r .bus .turn)
-  remembers lastRD-to b = each-after (is RD c) (bankAt c (r .counter)) t b (r .banks .rd) low (w .rd)
-  remembers lastRDA-to b = each-after (is RD c && apOf c) (bankAt c (r .counter)) t b (r .banks .rda) low (w .rda)
-  remembers lastWR-to b = notedEach-after (is WR c) (bankAt c (r .counter)) t (r .mr2) b (r .banks .wr) low (w .wr)
-  remembers lastWRA-to b = notedEach-after (is WR c && apOf c) (bankAt c (r .counter)) t (r .mr2) b (r .banks .wra) low (w .wra)
+  remembers lastRD b = once-after (is RD c) t (s .bus .rd)
+  remembers lastWR b = noted-after (is WR c) t (s .mr2) (s .bus .wr)
+  remembers lastRDorMRR b = noted-after (is RD c || is MRR c) t (s .mr2) (s .bus .turn)
+  remembers lastRD-to b = each-after (is RD c) k t b (s .banks .rd) low (w .rd)
+  remembers lastRDA-to b = each-after (is RD c && apOf c) k t b (s .banks .rda) low (w .rda)
+  remembers lastWR-to b = notedEach-after (is WR c) k t (s .mr2) b (s .banks .wr) low (w .wr)
+  remembers lastWRA-to b = notedEach-after (is WR c && apOf c) k t (s .mr2) b (s .banks .wra) low (w .wra)
+  remembers lastFall b = once-after (isFall v) t (s .moves .fall)
+  remembers lastPowerExit b = once-after (risesFrom powerDown v) t (s .moves .«power_exit»)
+  remembers lastSelfExit b = once-after (risesFrom selfRefresh v) t (s .moves .«self_exit»)

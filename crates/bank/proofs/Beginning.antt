@@ -21,10 +21,14 @@ use Rattle.rules.specs.Delays.{
   lastRDA-to,
   lastWR-to,
   lastWRA-to,
+  lastFall,
+  lastPowerExit,
+  lastSelfExit,
 }
 use Rattle.rules.specs.Lent as lent
 use Rattle.card.specs.Values.{cardOf}
 use Rattle.card.specs.declared.Card.{Card}
+use Rattle.pins.specs.Values.{levelOf}
 use Rattle.ledger.specs.Values.{ledgerOf}
 use Rattle.bank.specs.Values.{
   kept,
@@ -38,43 +42,50 @@ use Rattle.bank.specs.Values.{
   preaOf,
   asked,
   lastOf,
+  shareOf,
   lentOf,
   never,
   neverNoted,
   neverEach,
   neverNotedEach,
   neverFour,
+  freshShare,
   freshOf,
 }
 use Rattle.bank.proofs.Places.{same-everywhere}
 
-nothing : (card : Card) (a : Ask) (b : ℕ) → asked (freshOf card) a b ≡ []
-unfolding kept once noted each notedEach four outweighed preOf preaOf asked never neverNoted neverEach neverNotedEach neverFour freshOf
-nothing card lastMRW b = refl
-nothing card lastMRR b = refl
-nothing card lastREFab b = refl
-nothing card lastREFpb b = refl
-nothing card lastREFpb-to b = rw (same-everywhere 8 b false)
-nothing card lastPRE-to b = rw (same-everywhere 8 b false)
-nothing card lastPREA-to b = refl
-nothing card lastACT-to b = rw (same-everywhere 8 b false)
-nothing card fourthLast b = refl
-nothing card lastRD b = refl
-nothing card lastWR b = refl
-nothing card lastRDorMRR b = refl
-nothing card lastRD-to b = rw (same-everywhere 8 b false)
-nothing card lastRDA-to b = rw (same-everywhere 8 b false)
-nothing card lastWR-to b = rw (same-everywhere 8 b false)
-nothing card lastWRA-to b = rw (same-everywhere 8 b false)
+nothing : (m : ℕ) (a : Ask) (b : ℕ) → asked (freshShare m) a b ≡ []
+unfolding kept once noted each notedEach four outweighed preOf preaOf asked never neverNoted neverEach neverNotedEach neverFour freshShare
+nothing m lastMRW b = refl
+nothing m lastMRR b = refl
+nothing m lastREFab b = refl
+nothing m lastREFpb b = refl
+nothing m lastREFpb-to b = rw (same-everywhere 8 b false)
+nothing m lastPRE-to b = rw (same-everywhere 8 b false)
+nothing m lastPREA-to b = refl
+nothing m lastACT-to b = rw (same-everywhere 8 b false)
+nothing m fourthLast b = refl
+nothing m lastRD b = refl
+nothing m lastWR b = refl
+nothing m lastRDorMRR b = refl
+nothing m lastRD-to b = rw (same-everywhere 8 b false)
+nothing m lastRDA-to b = rw (same-everywhere 8 b false)
+nothing m lastWR-to b = rw (same-everywhere 8 b false)
+nothing m lastWRA-to b = rw (same-everywhere 8 b false)
+nothing m lastFall b = refl
+nothing m lastPowerExit b = refl
+nothing m lastSelfExit b = refl
 
 pub fresh-lent : (card : Card) → lentOf (freshOf card) ≡ lent.fresh (cardOf card)
-unfolding lentOf lent.fresh lastOf ledgerOf cardOf freshOf never
+unfolding lentOf shareOf lent.fresh lastOf ledgerOf levelOf cardOf freshOf freshShare never
 fresh-lent card = λ i. record {
   card = cardOf card;
-  mr2 = card .mr2;
-  open? = λ b. same-everywhere 8 b false i;
-  counter = 0;
   last = lastOf never;
-  history = λ q. nothing card (q .ask) (q .bank) i;
-  ledger = ledgerOf (freshOf card .ledger);
+  share = record {
+    mr2 = card .mr2;
+    open? = λ b. same-everywhere 8 b false i;
+    counter = 0;
+    history = λ q. nothing (card .mr2) (q .ask) (q .bank) i;
+    ledger = ledgerOf (freshShare (card .mr2) .ledger);
+  };
 }

@@ -16,7 +16,7 @@ use Rattle.rules.specs.Delays.{lastPRE-to}
 use Rattle.rules.specs.Lent.{History, asks, allStored, notAbove, aboveLast, stampsGood}
 use Rattle.rules.proofs.Onward.{at-each}
 use Rattle.rules.proofs.Tests.{lt-cases, both-true}
-use Rattle.bank.specs.Values.{entry, kept, once, each, outweighed, preOf, preaOf, asked, lentOf}
+use Rattle.bank.specs.Values.{entry, kept, once, each, outweighed, preOf, preaOf, asked, shareOf, lentOf}
 use Rattle.bank.specs.declared.Record.{Record}
 use Rattle.bank.proofs.Stored.{all-onward}
 use Rattle.bank.proofs.Sizes.{Whole}
@@ -82,31 +82,31 @@ module _ (P : ℕ → Bool) (t : ℕ) (below : (s : ℕ) → P s ≡ true → s 
       (λ x. a, λ x. omega (arith, a, l .0)))
       (lt-cases p u)
 
-module _ (r : Record) (t : ℕ) (w : Whole r) (good : stampsGood (lentOf r) ≡ true) (rising : aboveLast (lentOf r .last) t ≡ true) where
+module _ (r : Record) (t : ℕ) (w : Whole r) (good : stampsGood (lentOf r .last) (lentOf r .share) ≡ true) (rising : aboveLast (lentOf r .last) t ≡ true) where
   stored : (i : ℕ) → i < length asks → (b : ℕ) → b < 8
-      → all (λ (f : Found ℕ). notAbove (lentOf r .last) (f .stamp)) (lentOf r .history (record { ask = getD asks i lastPRE-to; bank = b })) ≡ true
+      → all (λ (f : Found ℕ). notAbove (lentOf r .last) (f .stamp)) (lentOf r .share .history (record { ask = getD asks i lastPRE-to; bank = b })) ≡ true
   unfolding stampsGood allStored
   stored i hi b hb =
       let P : Found ℕ → Bool = λ f. notAbove (lentOf r .last) (f .stamp) in
-      let h : History = lentOf r .history in
+      let h : History = lentOf r .share .history in
       let inner = all-at (λ a. all (λ k. all P (h (record { ask = a; bank = k }))) banks) asks i lastPRE-to hi good in
       at-each (λ k. all P (h (record { ask = getD asks i lastPRE-to; bank = k }))) 0 8 (sym (all-onward _) ∙ inner) b (omega arith) (omega arith)
 
   below-at : (b : ℕ) → b < 8
-      → (getD (r .banks .pre .seen) b false ≡ true → getD (r .banks .pre .at) b 0 < t) × (r .latest .prea .seen ≡ true → r .latest .prea .at < t)
-  unfolding asks lentOf asked preOf preaOf each once
+      → (getD (r .share .banks .pre .seen) b false ≡ true → getD (r .share .banks .pre .at) b 0 < t) × (r .share .latest .prea .seen ≡ true → r .share .latest .prea .at < t)
+  unfolding asks lentOf shareOf asked preOf preaOf each once
   below-at b h =
       both-below (notAbove (lentOf r .last)) t (λ s e. rising-stamp (lentOf r .last) s t e rising)
-      (getD (r .banks .pre .seen) b false) (r .latest .prea .seen) (getD (r .banks .pre .at) b 0) (r .latest .prea .at)
+      (getD (r .share .banks .pre .seen) b false) (r .share .latest .prea .seen) (getD (r .share .banks .pre .at) b 0) (r .share .latest .prea .at)
       (stored 5 (omega arith) b h) (stored 6 (omega arith) b h)
 
-  pub pre-below : (b : ℕ) → getD (r .banks .pre .seen) b false ≡ true → getD (r .banks .pre .at) b 0 < t
+  pub pre-below : (b : ℕ) → getD (r .share .banks .pre .seen) b false ≡ true → getD (r .share .banks .pre .at) b 0 < t
   pre-below b e =
       ⊎-elim (λ (l : (b < 8) × (ltb b 8 ≡ true)). below-at b (l .0) .0 e)
       (λ (l : (8 ≤ b) × (ltb b 8 ≡ false)).
       let z = w .pre .seen in
-      false-true (sym (List·getD-eq-default (r .banks .pre .seen) false {n = b} (omega arith)) ∙ e))
+      false-true (sym (List·getD-eq-default (r .share .banks .pre .seen) false {n = b} (omega arith)) ∙ e))
       (lt-cases b 8)
 
-  pub prea-below : r .latest .prea .seen ≡ true → r .latest .prea .at < t
+  pub prea-below : r .share .latest .prea .seen ≡ true → r .share .latest .prea .at < t
   prea-below = below-at 0 (omega arith) .1

@@ -29,11 +29,11 @@ pub noted-whole : (x : NotedEach) → length (map (λ (v : Bool). v) (x .seen)) 
 noted-whole x s a m = record { seen = held (x .seen) s; at = held (x .at) a; mr2 = held (x .mr2) m }
 
 pub record Whole (r : Record) : Type 0 where
-  pub opened : length (r .banks .opened) ≡ 8
-  pub refpb : EachWhole (r .banks .refpb)
-  pub pre : EachWhole (r .banks .pre)
-  pub act : EachWhole (r .banks .act)
-  pub rd : EachWhole (r .banks .rd)
-  pub rda : EachWhole (r .banks .rda)
-  pub wr : NotedWhole (r .banks .wr)
-  pub wra : NotedWhole (r .banks .wra)
+  pub opened : length (r .share .banks .opened) ≡ 8
+  pub refpb : EachWhole (r .share .banks .refpb)
+  pub pre : EachWhole (r .share .banks .pre)
+  pub act : EachWhole (r .share .banks .act)
+  pub rd : EachWhole (r .share .banks .rd)
+  pub rda : EachWhole (r .share .banks .rda)
+  pub wr : NotedWhole (r .share .banks .wr)
+  pub wra : NotedWhole (r .share .banks .wra)

@@ -32,24 +32,29 @@ use Rattle.rules.specs.Delays.{
   lastRDA-to,
   lastWR-to,
   lastWRA-to,
+  lastFall,
+  lastPowerExit,
+  lastSelfExit,
   latestOf,
   laggingOf,
   fourthOf,
   latestIf,
+  latestMove,
   means,
 }
 use Rattle.rules.specs.Lent.{asks, allStored, mr2sGood, notAbove, stampsGood}
 use Rattle.rules.proofs.Onward.{onward}
 use Rattle.rules.proofs.Tests.{lt-cases, le-cases}
 use Rattle.card.specs.Values.{cardOf}
+use Rattle.card.specs.declared.Card.{Card}
 use Rattle.bank.specs.declared.Once.{Once}
 use Rattle.bank.specs.declared.Noted.{Noted}
 use Rattle.bank.specs.declared.Each.{Each}
 use Rattle.bank.specs.declared.NotedEach.{NotedEach}
 use Rattle.bank.specs.declared.Four.{Four}
-use Rattle.bank.specs.declared.Record.{Record}
-use Rattle.bank.specs.Values.{entry, kept, once, noted, each, notedEach, place, four, outweighed, preOf, preaOf, asked, lastOf, lentOf}
-use Rattle.bank.specs.Clauses.{keptBy, eachBy, fourBy, latestBy, rowsBy, busBy, dataBy, noteGood, notesGood}
+use Rattle.bank.specs.declared.Share.{Share}
+use Rattle.bank.specs.Values.{entry, kept, once, noted, each, notedEach, place, four, outweighed, preOf, preaOf, asked, lastOf, shareOf}
+use Rattle.bank.specs.Clauses.{keptBy, eachBy, fourBy, latestBy, movesBy, rowsBy, busBy, dataBy, noteGood, notesGood}
 
 -- ---- conjunctions
 and-swap : (a b c d : Bool) → ((a && b) && (c && d)) ≡ ((a && c) && (b && d))
@@ -106,7 +111,8 @@ all-asks : (p : Ask → Bool) → all p asks ≡ (
     (p lastREFpb-to && (p lastPRE-to && p lastPREA-to) && p lastACT-to) &&
     p fourthLast &&
     (p lastRD && p lastWR && p lastRDorMRR) &&
-    (p lastRD-to && p lastRDA-to && p lastWR-to && p lastWRA-to)
+    (p lastRD-to && p lastRDA-to && p lastWR-to && p lastWRA-to) &&
+    (p lastFall && p lastPowerExit && p lastSelfExit)
     )
 unfolding all asks
 all-asks p = simp (and-assoc, and-true) refl
@@ -194,72 +200,82 @@ module _ (last : Once) where
       sym (all-both _ _ banks) ∙
       ap (λ z. eachBy last (p .seen) (p .at) && z) (all-const _)
 
-module _ (rec : Record) where
-  pub stamps-are : stampsGood (lentOf rec) ≡ (
-      latestBy (rec .last) (rec .latest) &&
-      rowsBy (rec .last) (rec .banks) (rec .latest .prea) &&
-      all (λ b. all (λ f. notAbove (lastOf (rec .last)) (f .stamp)) (asked rec fourthLast b)) banks &&
-      busBy (rec .last) (rec .bus) &&
-      dataBy (rec .last) (rec .banks)
+module _ (z : Once) (s : Share) where
+  pub stamps-are : stampsGood (lastOf z) (shareOf s) ≡ (
+      latestBy z (s .latest) &&
+      rowsBy z (s .banks) (s .latest .prea) &&
+      all (λ b. all (λ f. notAbove (lastOf z) (f .stamp)) (asked s fourthLast b)) banks &&
+      busBy z (s .bus) &&
+      dataBy z (s .banks) &&
+      movesBy z (s .moves)
       )
-  unfolding stampsGood allStored lentOf asked once noted each notedEach preOf preaOf latestBy rowsBy busBy dataBy
+  unfolding stampsGood allStored shareOf asked once noted each notedEach preOf preaOf latestBy movesBy rowsBy busBy dataBy
   stamps-are =
-      let z = rec .last in
-      let l = rec .latest in
-      let u = rec .bus in
-      let k = rec .banks in
-      all-asks (λ a. all (λ b. all (below z) (asked rec a b)) banks) ∙
+      let l = s .latest in
+      let u = s .bus in
+      let k = s .banks in
+      let v = s .moves in
+      all-asks (λ a. all (λ b. all (below z) (asked s a b)) banks) ∙
       (λ i.
       (once-by z (l .mrw .seen) (l .mrw .at) 0 i &&
       once-by z (l .mrr .seen) (l .mrr .at) 0 i &&
       once-by z (l .refab .seen) (l .refab .at) 0 i &&
       once-by z (l .refpb .seen) (l .refpb .at) 0 i) &&
       (each-by z (k .refpb .seen) (k .refpb .at) (λ b. 0) i && pre-and-prea z (k .pre) (l .prea) i && each-by z (k .act .seen) (k .act .at) (λ b. 0) i) &&
-      all (λ b. all (below z) (asked rec fourthLast b)) banks &&
+      all (λ b. all (below z) (asked s fourthLast b)) banks &&
       (once-by z (u .rd .seen) (u .rd .at) 0 i &&
       once-by z (u .wr .seen) (u .wr .at) (u .wr .mr2) i &&
       once-by z (u .turn .seen) (u .turn .at) (u .turn .mr2) i) &&
       (each-by z (k .rd .seen) (k .rd .at) (λ b. 0) i &&
       each-by z (k .rda .seen) (k .rda .at) (λ b. 0) i &&
       each-by z (k .wr .seen) (k .wr .at) (λ b. getD (k .wr .mr2) b 0) i &&
-      each-by z (k .wra .seen) (k .wra .at) (λ b. getD (k .wra .mr2) b 0) i))
+      each-by z (k .wra .seen) (k .wra .at) (λ b. getD (k .wra .mr2) b 0) i) &&
+      (once-by z (v .fall .seen) (v .fall .at) 0 i &&
+      once-by z (v .«power_exit» .seen) (v .«power_exit» .at) 0 i &&
+      once-by z (v .«self_exit» .seen) (v .«self_exit» .at) 0 i))
 
-  -- ---- MR2 values
+-- ---- MR2 values
+module _ (card : Card) (s : Share) where
+  abbrev period : ℕ
+  period = card .period
+
   abbrev fits : Found ℕ → Bool
-  fits f = mr2Good (rec .card .period) (f .noted)
+  fits f = mr2Good period (f .noted)
 
   abbrev lagging : Ask → Bool
-  lagging a = all (λ b. all (λ f. cond (means a .lags) (fits f) true) (asked rec a b)) banks
+  lagging a = all (λ b. all (λ f. cond (means a .lags) (fits f) true) (asked s a b)) banks
 
-  noted-fits : (x : Noted) → all (λ b. all fits (noted x)) banks ≡ noteGood (rec .card .period) (x .seen) (x .mr2)
+  noted-fits : (x : Noted) → all (λ b. all fits (noted x)) banks ≡ noteGood period (x .seen) (x .mr2)
   unfolding noted noteGood
   noted-fits x = kept-once fits (x .seen) (x .at) (x .mr2)
 
-  each-fits : (x : NotedEach) → all (λ b. all fits (notedEach x b)) banks ≡ notesGood (rec .card .period) (x .seen) (x .mr2)
+  each-fits : (x : NotedEach) → all (λ b. all fits (notedEach x b)) banks ≡ notesGood period (x .seen) (x .mr2)
   unfolding notedEach noteGood notesGood
   each-fits x = kept-each fits (λ b. getD (x .seen) b false) (λ b. getD (x .at) b 0) (λ b. getD (x .mr2) b 0)
 
-  pub mr2s-are : mr2sGood (lentOf rec) ≡ (
-      mr2Good (rec .card .period) (rec .mr2) &&
-      (noteGood (rec .card .period) (rec .bus .wr .seen) (rec .bus .wr .mr2) && noteGood (rec .card .period) (rec .bus .turn .seen) (rec .bus .turn .mr2)) &&
-      (notesGood (rec .card .period) (rec .banks .wr .seen) (rec .banks .wr .mr2) && notesGood (rec .card .period) (rec .banks .wra .seen) (rec .banks .wra .mr2))
+  pub mr2s-are : mr2sGood (cardOf card) (shareOf s) ≡ (
+      mr2Good period (s .mr2) &&
+      (noteGood period (s .bus .wr .seen) (s .bus .wr .mr2) && noteGood period (s .bus .turn .seen) (s .bus .turn .mr2)) &&
+      (notesGood period (s .banks .wr .seen) (s .banks .wr .mr2) && notesGood period (s .banks .wra .seen) (s .banks .wra .mr2))
       )
-  unfolding mr2sGood allStored lentOf cardOf means latestOf laggingOf fourthOf latestIf asked
+  unfolding mr2sGood allStored shareOf cardOf means latestOf laggingOf fourthOf latestIf latestMove asked
   mr2s-are =
-      ap (λ z. mr2Good (rec .card .period) (rec .mr2) && z)
+      ap (λ z. mr2Good period (s .mr2) && z)
       (all-asks lagging ∙
       (λ i.
-      (none-tested (asked rec lastMRW) i &&
-      none-tested (asked rec lastMRR) i &&
-      none-tested (asked rec lastREFab) i &&
-      none-tested (asked rec lastREFpb) i) &&
-      (none-tested (asked rec lastREFpb-to) i &&
-      (none-tested (asked rec lastPRE-to) i && none-tested (asked rec lastPREA-to) i) &&
-      none-tested (asked rec lastACT-to) i) &&
-      none-tested (asked rec fourthLast) i &&
-      (none-tested (asked rec lastRD) i && noted-fits (rec .bus .wr) i && noted-fits (rec .bus .turn) i) &&
-      (none-tested (asked rec lastRD-to) i &&
-      none-tested (asked rec lastRDA-to) i &&
-      each-fits (rec .banks .wr) i &&
-      each-fits (rec .banks .wra) i))) ∙
-      sym (and-assoc (mr2Good (rec .card .period) (rec .mr2)) _ _)
+      (none-tested (asked s lastMRW) i &&
+      none-tested (asked s lastMRR) i &&
+      none-tested (asked s lastREFab) i &&
+      none-tested (asked s lastREFpb) i) &&
+      (none-tested (asked s lastREFpb-to) i &&
+      (none-tested (asked s lastPRE-to) i && none-tested (asked s lastPREA-to) i) &&
+      none-tested (asked s lastACT-to) i) &&
+      none-tested (asked s fourthLast) i &&
+      (none-tested (asked s lastRD) i && noted-fits (s .bus .wr) i && noted-fits (s .bus .turn) i) &&
+      (none-tested (asked s lastRD-to) i &&
+      none-tested (asked s lastRDA-to) i &&
+      each-fits (s .banks .wr) i &&
+      each-fits (s .banks .wra) i) &&
+      (none-tested (asked s lastFall) i && none-tested (asked s lastPowerExit) i && none-tested (asked s lastSelfExit) i)) ∙
+      and-true _) ∙
+      sym (and-assoc (mr2Good period (s .mr2)) _ _)

@@ -8,7 +8,8 @@ use lib.Dec.{leb}
 use lib.ListN.{getD, set, replicate}
 use Rattle.rules.specs.Commands as rules
 use Rattle.rules.specs.Commands.{MRW, MRR, REFPB, REFAB, ACT, RD, WR, PRE, PREA, is, bankOf, apOf}
-use Rattle.rules.specs.Past.{registerAfter, counterAfter, openAfter, bankAt}
+use Rattle.rules.specs.Levels.{powerDown, selfRefresh, Move, isFall, risesFrom}
+use Rattle.rules.specs.Past.{registerAfter, bankAt}
 use Rattle.rules.specs.Lent as lent
 use Rattle.pins.specs.Counter.{counterOn}
 use Rattle.ledger.specs.declared.Ledger.{Ledger}
@@ -20,27 +21,21 @@ use Rattle.bank.specs.declared.Each.{Each}
 use Rattle.bank.specs.declared.NotedEach.{NotedEach}
 use Rattle.bank.specs.declared.Four.{Four}
 use Rattle.bank.specs.declared.Latest.{Latest}
+use Rattle.bank.specs.declared.Moves.{Moves}
 use Rattle.bank.specs.declared.Bus.{Bus}
 use Rattle.bank.specs.declared.Banks.{Banks}
+use Rattle.bank.specs.declared.Share.{Share}
 use Rattle.bank.specs.declared.Record.{Record}
 
--- the lent record after a command that was taken, with this ledger
-unfoldable pub afterCommand : lent.Lent → rules.Command → (stamp : ℕ) → lent.Ledger → lent.Lent
-afterCommand l c t g = record {
-  card = l .card;
-  mr2 = registerAfter 2 c (l .mr2);
-  open? = λ b. openAfter b c (l .open? b);
-  counter = counterAfter c (l .counter);
-  last = some t;
-  history = lent.historyAfter c (l .counter) t (l .mr2) (l .history);
-  ledger = g;
-}
+-- the lent record after an entry that was taken, with this command and move, and with this ledger
+unfoldable pub afterCommand : lent.Lent → rules.Command → Move → (stamp : ℕ) → lent.Ledger → lent.Lent
+afterCommand l c v t g = record { card = l .card; last = some t; share = lent.shareAfter c v t g (l .share) }
 
 -- what a sound record and a rising stamp give; a command that was decoded has no bank above 7
 pub record AfterArgs (r : Record) (stamp : ℕ) (c : rules.Command) : Type 0 where
-  pub stamps : lent.stampsGood (lentOf r) ≡ true
+  pub stamps : lent.stampsGood (lentOf r .last) (lentOf r .share) ≡ true
   pub rising : lent.aboveLast (lentOf r .last) stamp ≡ true
-  pub counter : r .counter ≤ 7
+  pub counter : r .share .counter ≤ 7
   pub bank : bankOf c ≤ 7
 
 -- ---- one stamp, a stamp of one bank, and the last four
@@ -86,6 +81,13 @@ latestAfter c t x = record {
   refab = onceIf (is REFAB c) t (x .refab);
   refpb = onceIf (is REFPB c) t (x .refpb);
   prea = onceIf (is PREA c) t (x .prea);
+}
+
+unfoldable pub movesAfter : Move → (stamp : ℕ) → Moves → Moves
+movesAfter v t x = record {
+  fall = onceIf (isFall v) t (x .fall);
+  «power_exit» = onceIf (risesFrom powerDown v) t (x .«power_exit»);
+  «self_exit» = onceIf (risesFrom selfRefresh v) t (x .«self_exit»);
 }
 
 unfoldable pub busAfter : rules.Command → (stamp mr2 : ℕ) → Bus → Bus
@@ -158,20 +160,22 @@ banksAfter c n t m x =
       wra = y .wra;
     }
 
-unfoldable pub recordAfter : Record → rules.Command → (stamp : ℕ) → Ledger → Record
-recordAfter r c t g = record {
-  card = r .card;
-  mr2 = registerAfter 2 c (r .mr2);
-  counter = counterOn c (r .counter);
-  last = onceAt t;
-  latest = latestAfter c t (r .latest);
-  bus = busAfter c t (r .mr2) (r .bus);
-  four = fourAfter c t (r .four);
-  banks = banksAfter c (r .counter) t (r .mr2) (r .banks);
+unfoldable pub shareAfter : Share → rules.Command → Move → (stamp : ℕ) → Ledger → Share
+shareAfter s c v t g = record {
+  mr2 = registerAfter 2 c (s .mr2);
+  counter = counterOn c v (s .counter);
+  latest = latestAfter c t (s .latest);
+  moves = movesAfter v t (s .moves);
+  bus = busAfter c t (s .mr2) (s .bus);
+  four = fourAfter c t (s .four);
+  banks = banksAfter c (s .counter) t (s .mr2) (s .banks);
   ledger = g;
 }
 
+unfoldable pub recordAfter : Record → rules.Command → Move → (stamp : ℕ) → Ledger → Record
+recordAfter r c v t g = record { card = r .card; last = onceAt t; share = shareAfter (r .share) c v t g }
+
 -- the record to the bit, and what it then is to the rules
-pub record Changed (r : Record) (stamp : ℕ) (c : rules.Command) (g : Ledger) (s : Record) : Type 0 where
-  pub is : s ≡ recordAfter r c stamp g
-  pub lent : AfterArgs r stamp c → lentOf s ≡ afterCommand (lentOf r) c stamp (ledgerOf g)
+pub record Changed (r : Record) (stamp : ℕ) (c : rules.Command) (v : Move) (g : Ledger) (s : Record) : Type 0 where
+  pub is : s ≡ recordAfter r c v stamp g
+  pub lent : AfterArgs r stamp c → lentOf s ≡ afterCommand (lentOf r) c v stamp (ledgerOf g)

@@ -10,6 +10,7 @@ use Rattle.rules.specs.Lent.{notAbove}
 use Rattle.bank.specs.declared.Once.{Once}
 use Rattle.bank.specs.declared.Four.{Four}
 use Rattle.bank.specs.declared.Latest.{Latest}
+use Rattle.bank.specs.declared.Moves.{Moves}
 use Rattle.bank.specs.declared.Bus.{Bus}
 use Rattle.bank.specs.declared.Banks.{Banks}
 use Rattle.bank.specs.Values.{lastOf, four}
@@ -30,6 +31,12 @@ latestBy last x =
     keptBy last (x .mrr .seen) (x .mrr .at) &&
     keptBy last (x .refab .seen) (x .refab .at) &&
     keptBy last (x .refpb .seen) (x .refpb .at)
+
+unfoldable pub movesBy : Once → Moves → Bool
+movesBy last x =
+    keptBy last (x .fall .seen) (x .fall .at) &&
+    keptBy last (x .«power_exit» .seen) (x .«power_exit» .at) &&
+    keptBy last (x .«self_exit» .seen) (x .«self_exit» .at)
 
 unfoldable pub rowsBy : Once → Banks → Once → Bool
 rowsBy last x a =

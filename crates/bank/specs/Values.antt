@@ -24,16 +24,21 @@ use Rattle.rules.specs.Delays.{
   lastRDA-to,
   lastWR-to,
   lastWRA-to,
+  lastFall,
+  lastPowerExit,
+  lastSelfExit,
 }
 use Rattle.rules.specs.Lent as lent
 use Rattle.card.specs.Values.{cardOf}
 use Rattle.card.specs.declared.Card.{Card}
+use Rattle.pins.specs.declared.Level.the-variants.{Awake}
 use Rattle.ledger.specs.Values.{ledgerOf}
 use Rattle.bank.specs.declared.Once.{Once}
 use Rattle.bank.specs.declared.Noted.{Noted}
 use Rattle.bank.specs.declared.Each.{Each}
 use Rattle.bank.specs.declared.NotedEach.{NotedEach}
 use Rattle.bank.specs.declared.Four.{Four}
+use Rattle.bank.specs.declared.Share.{Share}
 use Rattle.bank.specs.declared.Record.{Record}
 
 -- an entry that is remembered, if it is there; 0 is noted where no rule goes by MR2
@@ -65,50 +70,54 @@ four x = take (x .count) (place x 0 ∷ place x 1 ∷ place x 2 ∷ place x 3 �
 unfoldable pub outweighed : (seen later : Bool) → (at other : ℕ) → Bool
 outweighed s r t u = s && r && ltb t u
 
-unfoldable pub preOf : Record → ℕ → List (Found ℕ)
-preOf r b =
-    let p = r .banks .pre in
-    let a = r .latest .prea in
+unfoldable pub preOf : Share → ℕ → List (Found ℕ)
+preOf s b =
+    let p = s .banks .pre in
+    let a = s .latest .prea in
     cond (outweighed (getD (p .seen) b false) (a .seen) (getD (p .at) b 0) (a .at)) [] (each p b)
 
-unfoldable pub preaOf : Record → ℕ → List (Found ℕ)
-preaOf r b =
-    let p = r .banks .pre in
-    let a = r .latest .prea in
+unfoldable pub preaOf : Share → ℕ → List (Found ℕ)
+preaOf s b =
+    let p = s .banks .pre in
+    let a = s .latest .prea in
     cond (outweighed (a .seen) (getD (p .seen) b false) (a .at) (getD (p .at) b 0)) [] (once a)
 
 -- what it remembers, by question
-unfoldable pub asked : Record → Ask → ℕ → List (Found ℕ)
-asked r lastMRW b = once (r .latest .mrw)
-asked r lastMRR b = once (r .latest .mrr)
-asked r lastREFab b = once (r .latest .refab)
-asked r lastREFpb b = once (r .latest .refpb)
-asked r lastREFpb-to b = each (r .banks .refpb) b
-asked r lastPRE-to b = preOf r b
-asked r lastPREA-to b = preaOf r b
-asked r lastACT-to b = each (r .banks .act) b
-asked r fourthLast b = four (r .four)
-asked r lastRD b = once (r .bus .rd)
-asked r lastWR b = noted (r .bus .wr)
-asked r lastRDorMRR b = noted (r .bus .turn)
-asked r lastRD-to b = each (r .banks .rd) b
-asked r lastRDA-to b = each (r .banks .rda) b
-asked r lastWR-to b = notedEach (r .banks .wr) b
-asked r lastWRA-to b = notedEach (r .banks .wra) b
+unfoldable pub asked : Share → Ask → ℕ → List (Found ℕ)
+asked s lastMRW b = once (s .latest .mrw)
+asked s lastMRR b = once (s .latest .mrr)
+asked s lastREFab b = once (s .latest .refab)
+asked s lastREFpb b = once (s .latest .refpb)
+asked s lastREFpb-to b = each (s .banks .refpb) b
+asked s lastPRE-to b = preOf s b
+asked s lastPREA-to b = preaOf s b
+asked s lastACT-to b = each (s .banks .act) b
+asked s fourthLast b = four (s .four)
+asked s lastRD b = once (s .bus .rd)
+asked s lastWR b = noted (s .bus .wr)
+asked s lastRDorMRR b = noted (s .bus .turn)
+asked s lastRD-to b = each (s .banks .rd) b
+asked s lastRDA-to b = each (s .banks .rda) b
+asked s lastWR-to b = notedEach (s .banks .wr) b
+asked s lastWRA-to b = notedEach (s .banks .wra) b
+asked s lastFall b = once (s .moves .fall)
+asked s lastPowerExit b = once (s .moves .«power_exit»)
+asked s lastSelfExit b = once (s .moves .«self_exit»)
 
 unfoldable pub lastOf : Once → Option ℕ
 lastOf x = cond (x .seen) (some (x .at)) none
 
-unfoldable pub lentOf : Record → lent.Lent
-lentOf r = record {
-  card = cardOf (r .card);
-  mr2 = r .mr2;
-  open? = λ b. getD (r .banks .opened) b false;
-  counter = r .counter;
-  last = lastOf (r .last);
-  history = λ q. asked r (q .ask) (q .bank);
-  ledger = ledgerOf (r .ledger);
+unfoldable pub shareOf : Share → lent.Share
+shareOf s = record {
+  mr2 = s .mr2;
+  open? = λ b. getD (s .banks .opened) b false;
+  counter = s .counter;
+  history = λ q. asked s (q .ask) (q .bank);
+  ledger = ledgerOf (s .ledger);
 }
+
+unfoldable pub lentOf : Record → lent.Lent
+lentOf r = record { card = cardOf (r .card); last = lastOf (r .last); share = shareOf (r .share) }
 
 -- a fresh record
 unfoldable pub never : Once
@@ -126,18 +135,21 @@ neverNotedEach = record { seen = replicate 8 false; at = replicate 8 0; mr2 = re
 unfoldable pub neverFour : Four
 neverFour = record { count = 0; at = replicate 4 0 }
 
-unfoldable pub freshOf : Card → Record
-freshOf card = record {
-  card = card;
-  mr2 = card .mr2;
+unfoldable pub freshShare : (mr2 : ℕ) → Share
+freshShare m = record {
+  mr2 = m;
   counter = 0;
-  last = never;
   latest = record {
     mrw = never;
     mrr = never;
     refab = never;
     refpb = never;
     prea = never;
+  };
+  moves = record {
+    fall = never;
+    «power_exit» = never;
+    «self_exit» = never;
   };
   bus = record {
     rd = never;
@@ -155,5 +167,8 @@ freshOf card = record {
     wr = neverNotedEach;
     wra = neverNotedEach;
   };
-  ledger = record { at = 0; owed = 8; refreshed = 0 };
+  ledger = record { at = 0; owed = 8; since = 0; skipped = 0; level = Awake };
 }
+
+unfoldable pub freshOf : Card → Record
+freshOf card = record { card = card; last = never; share = freshShare (card .mr2) }

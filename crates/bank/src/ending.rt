@@ -9,9 +9,9 @@ use ledger::Answer;
 
 // Refused in this order: 13, 5, 11. The ledger that comes back stands at E, or on a refusal where it stood.
 pub fn close(rec: Record, end: u32) -> After
-    ensures { λ r. ⌜ Left (lent.closeRefusal (lentOf rec) end) (lentOf rec .ledger) (lent.moved (lentOf rec .card) (lentOf rec .ledger) end) r ⌝ }
+    ensures { λ r. ⌜ Left (lent.closeRefusal (lentOf rec) end) (lentOf rec .share .ledger) (lent.movedOn (lentOf rec .card) (lentOf rec .share .ledger) end) r ⌝ }
 {
-    let stood = rec.ledger;
+    let stood = rec.share.ledger;
     if !sound::good(rec) {
         return After {
             ledger: stood,

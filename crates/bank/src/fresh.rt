@@ -1,17 +1,20 @@
 // The record before the first entry.
 ghost use mathlib.Core.Path.{_≡_};
-ghost use Rattle.bank.specs.Values.{freshOf};
+ghost use Rattle.bank.specs.Values.{freshShare, freshOf};
 use crate::Banks;
 use crate::Bus;
 use crate::Each;
 use crate::Four;
 use crate::Latest;
+use crate::Moves;
 use crate::Noted;
 use crate::NotedEach;
 use crate::Once;
 use crate::Record;
+use crate::Share;
 use card::Card;
 use ledger::Ledger;
+use pins::Level;
 
 const NEVER: Once = Once { seen: false, at: 0 };
 
@@ -37,20 +40,23 @@ const NEVER_FOUR: Four = Four {
     at: [0; 4],
 };
 
-pub fn fresh_record(card: Card) -> Record
-    ensures { λ r. ⌜ r ≡ freshOf card ⌝ }
+fn fresh_share(mr2: u8) -> Share
+    ensures { λ r. ⌜ r ≡ freshShare mr2 ⌝ }
 {
-    Record {
-        card: card,
-        mr2: card.mr2,
+    Share {
+        mr2: mr2,
         counter: 0,
-        last: NEVER,
         latest: Latest {
             mrw: NEVER,
             mrr: NEVER,
             refab: NEVER,
             refpb: NEVER,
             prea: NEVER,
+        },
+        moves: Moves {
+            fall: NEVER,
+            power_exit: NEVER,
+            self_exit: NEVER,
         },
         bus: Bus {
             rd: NEVER,
@@ -71,7 +77,19 @@ pub fn fresh_record(card: Card) -> Record
         ledger: Ledger {
             at: 0,
             owed: 8,
-            refreshed: 0,
+            since: 0,
+            skipped: 0,
+            level: Level::Awake,
         },
+    }
+}
+
+pub fn fresh_record(card: Card) -> Record
+    ensures { λ r. ⌜ r ≡ freshOf card ⌝ }
+{
+    Record {
+        card: card,
+        last: NEVER,
+        share: fresh_share(card.mr2),
     }
 }

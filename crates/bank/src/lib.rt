@@ -71,14 +71,28 @@ pub struct Banks {
     pub wra: NotedEach,
 }
 
-pub struct Record {
-    pub card: Card,
+// The latest moves of clock-enable: a fall, and a rise from power-down and from self-refresh.
+pub struct Moves {
+    pub fall: Once,
+    pub power_exit: Once,
+    pub self_exit: Once,
+}
+
+// What is kept of the part; its level is the ledger's.
+pub struct Share {
     pub mr2: u8,
     pub counter: u8,
-    pub last: Once,
     pub latest: Latest,
+    pub moves: Moves,
     pub bus: Bus,
     pub four: Four,
     pub banks: Banks,
     pub ledger: Ledger,
+}
+
+// `last` is the last entry's stamp.
+pub struct Record {
+    pub card: Card,
+    pub last: Once,
+    pub share: Share,
 }

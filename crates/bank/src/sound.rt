@@ -3,16 +3,20 @@ ghost use mathlib.Core.Path.{_≡_};
 ghost use mathlib.Core.Bool.{true};
 ghost use Rattle.rules.specs.Registers.{mr2Good};
 ghost use Rattle.rules.specs.Lent as lent;
-ghost use Rattle.bank.specs.Clauses.{keptBy, eachBy, fourBy, latestBy, rowsBy, busBy, dataBy, noteGood, notesGood};
-ghost use Rattle.bank.specs.Values.{lastOf, lentOf};
+ghost use Rattle.card.specs.Values.{cardOf};
+ghost use Rattle.bank.specs.Clauses.{keptBy, eachBy, fourBy, latestBy, movesBy, rowsBy, busBy, dataBy, noteGood, notesGood};
+ghost use Rattle.bank.specs.Values.{lastOf, shareOf, lentOf};
 use crate::Banks;
 use crate::Bus;
 use crate::Each;
 use crate::Four;
 use crate::Latest;
+use crate::Moves;
 use crate::NotedEach;
 use crate::Once;
 use crate::Record;
+use crate::Share;
+use card::Card;
 
 // A stamp that is kept is not above the last entry's.
 fn by(last: Once, seen: bool, at: u32) -> bool
@@ -77,6 +81,14 @@ fn latest_by(last: Once, x: Latest) -> bool
         & by(last, x.refpb.seen, x.refpb.at)
 }
 
+fn moves_by(last: Once, x: Moves) -> bool
+    ensures { λ r. ⌜ r ≡ movesBy last x ⌝ }
+{
+    by(last, x.fall.seen, x.fall.at)
+        & by(last, x.power_exit.seen, x.power_exit.at)
+        & by(last, x.self_exit.seen, x.self_exit.at)
+}
+
 // That a PRE outweighs a PRE-all, or is outweighed, hides no stamp here: what outweighs is later.
 fn rows_by(last: Once, x: Banks, prea: Once) -> bool
     ensures { λ r. ⌜ r ≡ rowsBy last x prea ⌝ }
@@ -98,14 +110,15 @@ fn data_by(last: Once, x: Banks) -> bool
     each_by(last, x.rd) & each_by(last, x.rda) & noted_by(last, x.wr) & noted_by(last, x.wra)
 }
 
-fn stamps_good(rec: Record) -> bool
-    ensures { λ r. ⌜ r ≡ lent.stampsGood (lentOf rec) ⌝ }
+fn stamps_good(last: Once, x: Share) -> bool
+    ensures { λ r. ⌜ r ≡ lent.stampsGood (lastOf last) (shareOf x) ⌝ }
 {
-    latest_by(rec.last, rec.latest)
-        & rows_by(rec.last, rec.banks, rec.latest.prea)
-        & four_by(rec.last, rec.four)
-        & bus_by(rec.last, rec.bus)
-        & data_by(rec.last, rec.banks)
+    latest_by(last, x.latest)
+        & rows_by(last, x.banks, x.latest.prea)
+        & four_by(last, x.four)
+        & bus_by(last, x.bus)
+        & data_by(last, x.banks)
+        & moves_by(last, x.moves)
 }
 
 // `now` is the present value: what equals it is not looked up again.
@@ -136,17 +149,17 @@ fn notes_good(period: u32, now: u8, x: NotedEach) -> bool
     true
 }
 
-fn mr2s_good(rec: Record) -> bool
-    ensures { λ r. ⌜ r ≡ lent.mr2sGood (lentOf rec) ⌝ }
+fn mr2s_good(card: Card, x: Share) -> bool
+    ensures { λ r. ⌜ r ≡ lent.mr2sGood (cardOf card) (shareOf x) ⌝ }
 {
-    let period = rec.card.period;
-    let now = rec.mr2;
+    let period = card.period;
+    let now = x.mr2;
     if !card::mr2_good(period, now) {
         return false;
     }
-    (note_good(period, now, rec.bus.wr.seen, rec.bus.wr.mr2)
-        & note_good(period, now, rec.bus.turn.seen, rec.bus.turn.mr2))
-        & (notes_good(period, now, rec.banks.wr) & notes_good(period, now, rec.banks.wra))
+    (note_good(period, now, x.bus.wr.seen, x.bus.wr.mr2)
+        & note_good(period, now, x.bus.turn.seen, x.bus.turn.mr2))
+        & (notes_good(period, now, x.banks.wr) & notes_good(period, now, x.banks.wra))
 }
 
 fn last_by(last: Once, cycle: u32) -> bool
@@ -159,14 +172,19 @@ fn last_by(last: Once, cycle: u32) -> bool
 }
 
 // The ledger's number has 8 added.
+fn share_good(card: Card, last: Once, x: Share) -> bool
+    ensures { λ r. ⌜ r ≡ lent.shareGood (cardOf card) (lastOf last) (shareOf x) ⌝ }
+{
+    mr2s_good(card, x)
+        & (x.ledger.owed <= 16)
+        & stamps_good(last, x)
+        & last_by(last, x.ledger.at)
+        & (x.ledger.since <= ledger::number_of(x.ledger))
+        & (x.counter <= 7)
+}
+
 pub fn good(rec: Record) -> bool
     ensures { λ r. ⌜ r ≡ lent.lentGood (lentOf rec) ⌝ }
 {
-    card::in_range(rec.card)
-        & mr2s_good(rec)
-        & (rec.ledger.owed <= 16)
-        & stamps_good(rec)
-        & last_by(rec.last, rec.ledger.at)
-        & (rec.ledger.refreshed <= rec.ledger.at)
-        & (rec.counter <= 7)
+    card::in_range(rec.card) & share_good(rec.card, rec.last, rec.share)
 }

@@ -1,20 +1,25 @@
 // What an entry that was taken changes in the record.
 ghost use mathlib.Core.Path.{_≡_};
 ghost use lib.ListN.{set};
+ghost use Rattle.rules.specs.Levels.{rises};
 ghost use Rattle.rules.specs.Past.{registerAfter};
-ghost use Rattle.pins.specs.Values.{commandOf};
-ghost use Rattle.bank.specs.After.{Changed, onceAt, notedAt, putEach, putNoted, shifted, pushedOn, fourAfter, latestAfter, busAfter, openedAfter, readOn, writtenOn, stampedAfter, banksAfter};
+ghost use Rattle.pins.specs.Values.{commandOf, levelOf, movedOf};
+ghost use Rattle.bank.specs.After.{Changed, onceAt, notedAt, putEach, putNoted, shifted, pushedOn, fourAfter, latestAfter, movesAfter, busAfter, openedAfter, readOn, writtenOn, stampedAfter, banksAfter, shareAfter};
 use crate::Banks;
 use crate::Bus;
 use crate::Each;
 use crate::Four;
 use crate::Latest;
+use crate::Moves;
 use crate::Noted;
 use crate::NotedEach;
 use crate::Once;
 use crate::Record;
+use crate::Share;
 use ledger::Ledger;
 use pins::Command;
+use pins::Level;
+use pins::Move;
 
 fn once_at(t: u32) -> Once
     ensures { λ r. ⌜ r ≡ onceAt t ⌝ }
@@ -131,6 +136,41 @@ fn latest_after(x: Latest, command: Command, t: u32) -> Latest
             next
         }
         _ => x,
+    }
+}
+
+// Deep power-down is not left, and nothing rises from awake.
+fn risen(x: Moves, level: Level, t: u32) -> Moves
+    ensures { λ r. ⌜ r ≡ movesAfter (rises (levelOf level)) t x ⌝ }
+{
+    let now = once_at(t);
+    let mut next = x;
+    match level {
+        Level::PowerDown => {
+            next.power_exit = now;
+            next
+        }
+        Level::SelfRefresh => {
+            next.self_exit = now;
+            next
+        }
+        Level::Awake => x,
+        Level::Deep => x,
+    }
+}
+
+fn moves_after(x: Moves, moved: Move, t: u32) -> Moves
+    ensures { λ r. ⌜ r ≡ movesAfter (movedOf moved) t x ⌝ }
+{
+    let now = once_at(t);
+    let mut next = x;
+    match moved {
+        Move::Stays => x,
+        Move::Falls(_) => {
+            next.fall = now;
+            next
+        }
+        Move::Rises(level) => risen(x, level, t),
     }
 }
 
@@ -259,26 +299,37 @@ fn banks_after(x: Banks, command: Command, counter: u8, t: u32, mr2: u8) -> Bank
     next
 }
 
-// The record after an entry that was taken, with the ledger then.
-pub fn after(rec: Record, stamp: u32, command: Command, ledger: Ledger) -> Record
-    ensures { λ r. ⌜ Changed rec stamp (commandOf command) ledger r ⌝ }
+fn share_after(x: Share, stamp: u32, command: Command, moved: Move, ledger: Ledger) -> Share
+    ensures { λ r. ⌜ r ≡ shareAfter x (commandOf command) (movedOf moved) stamp ledger ⌝ }
 {
-    let mr2 = rec.mr2;
-    let counter = rec.counter;
-    let latest = rec.latest;
-    let bus = rec.bus;
-    let four = rec.four;
-    let banks = rec.banks;
-    let card = rec.card;
-    Record {
-        card: card,
+    let mr2 = x.mr2;
+    let counter = x.counter;
+    let latest = x.latest;
+    let moves = x.moves;
+    let bus = x.bus;
+    let four = x.four;
+    let banks = x.banks;
+    Share {
         mr2: mr2_after(mr2, command),
-        counter: pins::counter_after(counter, command),
-        last: once_at(stamp),
+        counter: pins::counter_after(counter, command, moved),
         latest: latest_after(latest, command, stamp),
+        moves: moves_after(moves, moved, stamp),
         bus: bus_after(bus, command, stamp, mr2),
         four: four_after(four, command, stamp),
         banks: banks_after(banks, command, counter, stamp, mr2),
         ledger: ledger,
+    }
+}
+
+// The record after an entry that was taken, recorded as the command and with this move of clock-enable, with the ledger then.
+pub fn after(rec: Record, stamp: u32, command: Command, moved: Move, ledger: Ledger) -> Record
+    ensures { λ r. ⌜ Changed rec stamp (commandOf command) (movedOf moved) ledger r ⌝ }
+{
+    let card = rec.card;
+    let share = rec.share;
+    Record {
+        card: card,
+        last: once_at(stamp),
+        share: share_after(share, stamp, command, moved, ledger),
     }
 }

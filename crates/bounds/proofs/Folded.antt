@@ -8,7 +8,7 @@ use native.Mathlib.Numerals.{add-one}
 use lib.ListN.{length, getD, drop}
 use lib.Seq.{drop-length, drop-cons}
 use borrow.Author.Tests.{le-leb, lt-leb}
-use Rattle.bounds.specs.Parts.{brokenFrom, greatestOf}
+use Rattle.bounds.specs.Parts.{ruleAt, brokenFrom, greatestOf}
 
 module _ (l : List ℕ) (i : ℕ) where
   -- the first that is left
@@ -19,16 +19,16 @@ module _ (l : List ℕ) (i : ℕ) where
   none-left h = rw h (drop-length l)
 
   -- the first i rules hold
-  pub breaks : (t : ℕ) → brokenFrom 1 l t ≡ brokenFrom (i + 1) (drop i l) t → i < length l → t < getD l i 0 → some (i + 1, getD l i 0) ≡ brokenFrom 1 l t
+  pub breaks : (t : ℕ) → brokenFrom 0 l t ≡ brokenFrom i (drop i l) t → i < length l → t < getD l i 0 → some (ruleAt i, getD l i 0) ≡ brokenFrom 0 l t
   unfolding brokenFrom
   breaks t e h b = sym (e ∙ rw (next h, lt-leb (getD l i 0) t b))
 
-  pub holds : (t : ℕ) → brokenFrom 1 l t ≡ brokenFrom (i + 1) (drop i l) t → i < length l → getD l i 0 ≤ t
-      → brokenFrom 1 l t ≡ brokenFrom (i + 1 + 1) (drop (i + 1) l) t
+  pub holds : (t : ℕ) → brokenFrom 0 l t ≡ brokenFrom i (drop i l) t → i < length l → getD l i 0 ≤ t
+      → brokenFrom 0 l t ≡ brokenFrom (i + 1) (drop (i + 1) l) t
   unfolding brokenFrom
-  holds t e h b = e ∙ rw (next h, le-leb (getD l i 0) t b, add-one (i + 1))
+  holds t e h b = e ∙ rw (next h, le-leb (getD l i 0) t b, add-one i)
 
-  pub all-hold : (t : ℕ) → brokenFrom 1 l t ≡ brokenFrom (i + 1) (drop i l) t → i ≡ length l → none ≡ brokenFrom 1 l t
+  pub all-hold : (t : ℕ) → brokenFrom 0 l t ≡ brokenFrom i (drop i l) t → i ≡ length l → none ≡ brokenFrom 0 l t
   unfolding brokenFrom
   all-hold t e h = sym (e ∙ rw (none-left h))
 

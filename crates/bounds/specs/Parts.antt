@@ -3,8 +3,9 @@ use Prim.Native.Nat.{ℕ, zero, suc, _+_, _-_, max}
 use mathlib.Core.Bool.{Bool, cond}
 use mathlib.Core.List.{List, [], _∷_, map}
 use mathlib.Core.Option.{Option, none, some}
-use lib.Dec.{leb}
+use lib.Dec.{leb, ltb}
 use lib.ListN.{getD}
+use Rattle.rules.specs.Levels.{Move}
 use Rattle.rules.specs.Registers.{rlOf, wlOf}
 use Rattle.rules.specs.Folds.{Source, bound}
 use Rattle.rules.specs.Folds as folds
@@ -15,11 +16,11 @@ use Rattle.card.specs.Values.{clocksOf}
 use Rattle.card.specs.declared.Delays.{Delays}
 use Rattle.pins.specs.Values.{commandOf}
 use Rattle.pins.specs.declared.Command.{Command}
-use Rattle.bank.specs.Values.{entry, lentOf}
+use Rattle.bank.specs.Values.{entry, shareOf}
 use Rattle.bank.specs.declared.Once.{Once}
-use Rattle.bank.specs.declared.Record.{Record}
+use Rattle.bank.specs.declared.Share.{Share}
 use Rattle.bounds.specs.declared.answers.Ask.{Ask}
-use Rattle.bounds.specs.declared.answers.Ask.the-variants.{Mrw, Mrr, Refab, Refpb, RefpbTo, PreTo, PreaTo, ActTo, FourthLast, Rd, Wr, RdOrMrr, RdTo, RdaTo, WrTo, WraTo}
+use Rattle.bounds.specs.declared.answers.Ask.the-variants.{Mrw, Mrr, Refab, Refpb, RefpbTo, PreTo, PreaTo, ActTo, FourthLast, Rd, Wr, RdOrMrr, RdTo, RdaTo, WrTo, WraTo, Fall, PowerExit, SelfExit}
 use Rattle.bounds.specs.declared.answers.Found.{Found}
 use Rattle.bounds.specs.declared.spans.Shown.{Shown}
 use Rattle.bounds.specs.declared.spans.Span.{Span}
@@ -27,17 +28,24 @@ use Rattle.bounds.specs.declared.delays.Lag.{Lag}
 use Rattle.bounds.specs.declared.delays.Lag.the-variants.{Plain, Written, Turned}
 
 -- the bounds of the rules, by rising number
-unfoldable pub boundsOf : Record → Delays → Command → List ℕ
-boundsOf rec d c = map (bound (lookIn (lentOf rec .history))) (paper.delayRules (clocksOf d) (commandOf c) (rec .counter))
+unfoldable pub boundsOf : Share → Delays → Command → Move → List ℕ
+boundsOf s d c v = map (bound (lookIn (shareOf s .history))) (paper.delayRules (clocksOf d) (commandOf c) v (s .counter))
+
+-- the places of the table: rules 1 to 18, then 21 to 24
+unfoldable pub ruleAt : (place : ℕ) → ℕ
+ruleAt i = i + cond (ltb i 18) 1 3
+
+unfoldable pub placeOf : (rule : ℕ) → ℕ
+placeOf k = k - cond (ltb k 19) 1 3
 
 -- rule k's
-unfoldable pub boundOf : Record → Delays → Command → ℕ → ℕ
-boundOf rec d c k = getD (boundsOf rec d c) (k - 1) 0
+unfoldable pub boundOf : Share → Delays → Command → Move → ℕ → ℕ
+boundOf s d c v k = getD (boundsOf s d c v) (placeOf k) 0
 
--- rule k is the first of these
-unfoldable pub brokenFrom : (k : ℕ) → List ℕ → (stamp : ℕ) → Option (ℕ × ℕ)
-brokenFrom k [] t = none
-brokenFrom k (b ∷ bs) t = cond (leb b t) (brokenFrom (suc k) bs t) (some (k, b))
+-- the first of these, which stand from place i on
+unfoldable pub brokenFrom : (i : ℕ) → List ℕ → (stamp : ℕ) → Option (ℕ × ℕ)
+brokenFrom i [] t = none
+brokenFrom i (b ∷ bs) t = cond (leb b t) (brokenFrom (suc i) bs t) (some (ruleAt i, b))
 
 unfoldable pub greatestOf : List ℕ → ℕ
 greatestOf [] = 0
@@ -61,6 +69,9 @@ askOf RdTo = paper.lastRD-to
 askOf RdaTo = paper.lastRDA-to
 askOf WrTo = paper.lastWR-to
 askOf WraTo = paper.lastWRA-to
+askOf Fall = paper.lastFall
+askOf PowerExit = paper.lastPowerExit
+askOf SelfExit = paper.lastSelfExit
 
 unfoldable pub askedFor : Ask → ℕ → Question
 askedFor a b = record { ask = askOf a; bank = b }

@@ -4,16 +4,16 @@ ghost use mathlib.Core.Bool.{false, cond, _&&_, not};
 ghost use mathlib.Core.List.{[]};
 ghost use lib.ListN.{getD, getElem?};
 ghost use Rattle.rules.specs.Lent.{lookIn};
-ghost use Rattle.bank.specs.Values.{once, each, four, lentOf, outweighed};
+ghost use Rattle.bank.specs.Values.{once, each, four, shareOf, outweighed};
 ghost use Rattle.bounds.specs.Parts.{onceAs, foundAs, askedFor, answerOf};
 use bank::Each;
 use bank::Four;
 use bank::Noted;
 use bank::NotedEach;
 use bank::Once;
-use bank::Record;
+use bank::Share;
 
-// The latest entry of a kind, or of a kind to one bank; the first of the four latest activations; the latest RD or MRR.
+// The latest entry of a kind, or of a kind to one bank; the first of the four latest activations; the latest RD or MRR; the latest moves of clock-enable.
 pub enum Ask {
     Mrw,
     Mrr,
@@ -31,6 +31,9 @@ pub enum Ask {
     RdaTo,
     WrTo,
     WraTo,
+    Fall,
+    PowerExit,
+    SelfExit,
 }
 
 // An entry's stamp and MR2 as it stood there, if there is one; 0 where no rule goes by MR2.
@@ -141,25 +144,28 @@ fn of_four(x: Four) -> Found
     }
 }
 
-pub fn look(rec: Record, ask: Ask, bank: usize) -> Found
-    ensures { λ r. ⌜ answerOf r ≡ lookIn (lentOf rec .history) (askedFor ask bank) ⌝ }
+pub fn look(share: Share, ask: Ask, bank: usize) -> Found
+    ensures { λ r. ⌜ answerOf r ≡ lookIn (shareOf share .history) (askedFor ask bank) ⌝ }
 {
     match ask {
-        Ask::Mrw => of_once(rec.latest.mrw),
-        Ask::Mrr => of_once(rec.latest.mrr),
-        Ask::Refab => of_once(rec.latest.refab),
-        Ask::Refpb => of_once(rec.latest.refpb),
-        Ask::RefpbTo => of_each(rec.banks.refpb, bank),
-        Ask::PreTo => of_pre(rec.banks.pre, rec.latest.prea, bank),
-        Ask::PreaTo => of_prea(rec.banks.pre, rec.latest.prea, bank),
-        Ask::ActTo => of_each(rec.banks.act, bank),
-        Ask::FourthLast => of_four(rec.four),
-        Ask::Rd => of_once(rec.bus.rd),
-        Ask::Wr => of_noted(rec.bus.wr),
-        Ask::RdOrMrr => of_noted(rec.bus.turn),
-        Ask::RdTo => of_each(rec.banks.rd, bank),
-        Ask::RdaTo => of_each(rec.banks.rda, bank),
-        Ask::WrTo => of_noted_each(rec.banks.wr, bank),
-        Ask::WraTo => of_noted_each(rec.banks.wra, bank),
+        Ask::Mrw => of_once(share.latest.mrw),
+        Ask::Mrr => of_once(share.latest.mrr),
+        Ask::Refab => of_once(share.latest.refab),
+        Ask::Refpb => of_once(share.latest.refpb),
+        Ask::RefpbTo => of_each(share.banks.refpb, bank),
+        Ask::PreTo => of_pre(share.banks.pre, share.latest.prea, bank),
+        Ask::PreaTo => of_prea(share.banks.pre, share.latest.prea, bank),
+        Ask::ActTo => of_each(share.banks.act, bank),
+        Ask::FourthLast => of_four(share.four),
+        Ask::Rd => of_once(share.bus.rd),
+        Ask::Wr => of_noted(share.bus.wr),
+        Ask::RdOrMrr => of_noted(share.bus.turn),
+        Ask::RdTo => of_each(share.banks.rd, bank),
+        Ask::RdaTo => of_each(share.banks.rda, bank),
+        Ask::WrTo => of_noted_each(share.banks.wr, bank),
+        Ask::WraTo => of_noted_each(share.banks.wra, bank),
+        Ask::Fall => of_once(share.moves.fall),
+        Ask::PowerExit => of_once(share.moves.power_exit),
+        Ask::SelfExit => of_once(share.moves.self_exit),
     }
 }

@@ -5,14 +5,14 @@ ghost use Prim.Native.Nat.{_<_, _^_};
 ghost use lib.Dec.{eqb};
 ghost use Rattle.rules.specs.Folds.{permittedBy};
 ghost use Rattle.rules.specs.Lent.{lookIn};
-ghost use Rattle.bank.specs.Values.{lentOf};
+ghost use Rattle.bank.specs.Values.{shareOf};
 ghost use Rattle.bounds.specs.declared.delays.Lag.the-variants.{Plain};
 ghost use Rattle.bounds.specs.Parts.{delayIn, permittedAfter, sourcesOf, spanOf, answerOf, askedFor};
 use crate::answers::Ask;
 use crate::answers::Found;
 use crate::answers::look;
 use crate::spans::Span;
-use bank::Record;
+use bank::Share;
 
 // What RL and WL as at the entry make of a delay: nothing; WL is added; RL is added and WL taken off.
 pub enum Lag {
@@ -53,37 +53,37 @@ fn permits(found: Found, lag: Lag, clocks: u64) -> u64
     found.at as u64 + delay_by(lag, clocks, found.mr2)
 }
 
-fn at_bank(rec: Record, ask: Ask, bank: usize, but: u16, lag: Lag, clocks: u64) -> u64
+fn at_bank(share: Share, ask: Ask, bank: usize, but: u16, lag: Lag, clocks: u64) -> u64
     requires { ⌜ clocks < 2 ^ 40 ⌝ }
-    ensures { λ r. ⌜ r ≡ cond (eqb bank but) 0 (permittedAfter lag clocks (lookIn (lentOf rec .history) (askedFor ask bank))) ⌝ }
+    ensures { λ r. ⌜ r ≡ cond (eqb bank but) 0 (permittedAfter lag clocks (lookIn (shareOf share .history) (askedFor ask bank))) ⌝ }
 {
     if bank == but as usize {
         return 0;
     }
-    permits(look(rec, ask, bank), lag, clocks)
+    permits(look(share, ask, bank), lag, clocks)
 }
 
 // The first cycle that the entries found for these banks permit; 0 where there are none.
-pub fn since(rec: Record, ask: Ask, span: Span, lag: Lag, clocks: u64) -> u64
+pub fn since(share: Share, ask: Ask, span: Span, lag: Lag, clocks: u64) -> u64
     requires { ⌜ clocks < 2 ^ 40 ⌝ }
-    ensures { λ r. ⌜ r ≡ permittedBy (lookIn (lentOf rec .history)) (sourcesOf (spanOf span) ask lag clocks) ⌝ }
+    ensures { λ r. ⌜ r ≡ permittedBy (lookIn (shareOf share .history)) (sourcesOf (spanOf span) ask lag clocks) ⌝ }
 {
     let first = span.first as usize;
     let count = span.count as usize;
     let mut best: u64 = 0;
     let mut k: usize = 0;
     while k < count {
-        best = card::greater(best, at_bank(rec, ask, first + k, span.but, lag, clocks));
+        best = card::greater(best, at_bank(share, ask, first + k, span.but, lag, clocks));
         k += 1;
     }
     best
 }
 
 // The same of a delay that does not go by RL or WL.
-pub fn plain(rec: Record, ask: Ask, span: Span, clocks: u32) -> u64
-    ensures { λ r. ⌜ r ≡ permittedBy (lookIn (lentOf rec .history)) (sourcesOf (spanOf span) ask Plain clocks) ⌝ }
+pub fn plain(share: Share, ask: Ask, span: Span, clocks: u32) -> u64
+    ensures { λ r. ⌜ r ≡ permittedBy (lookIn (shareOf share .history)) (sourcesOf (spanOf span) ask Plain clocks) ⌝ }
 {
-    since(rec, ask, span, Lag::Plain, clocks as u64)
+    since(share, ask, span, Lag::Plain, clocks as u64)
 }
 
 pub fn wide(clocks: u32) -> u64

@@ -1,7 +1,8 @@
-// Delay rules 1 to 18 over a record: the first cycle that each permits, the first rule broken, and the first cycle at which all hold.
+// Delay rules 1 to 18 and 21 to 24 over a record: the first cycle that each permits, the first rule broken, and the first cycle at which all hold.
 mod answers;
 mod delays;
 mod folds;
+mod moves;
 mod spans;
 mod table;
 

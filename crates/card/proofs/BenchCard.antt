@@ -5,5 +5,5 @@ use Rattle.card.specs.Values.{cardOf, timingIn}
 use Rattle.card.specs.Bench.{benchCard}
 
 pub bench-is : cardOf benchCard ≡ paper.bench
-unfolding cardOf timingIn benchCard paper.bench paper.benchAt paper.timing
+unfolding cardOf timingIn benchCard paper.bench paper.benchAt paper.benchWith paper.onlyIf paper.timing
 bench-is = refl

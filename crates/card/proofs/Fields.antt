@@ -1,8 +1,8 @@
 -- The card that some fields of a file make: none make the blank card, and one more field makes what reading its value gives.
 use Prim.Native.Nat.{ℕ, _+_, _-_, _≤_, _<_}
 use mathlib.Core.Path.{_≡_, refl, ap, sym, _∙_}
-use mathlib.Core.Bool.{Bool, true, false, cond}
-use mathlib.Core.List.{List, [], _∷_}
+use mathlib.Core.Bool.{Bool, true, false, cond, _||_}
+use mathlib.Core.List.{List, [], _∷_, _++_}
 use mathlib.Core.Logic.{⊎-elim}
 use native.Mathlib.Omega.{arith}
 use lib.Dec.{leb, eqb, lit<}
@@ -10,7 +10,7 @@ use lib.ListN.{length, getD, set, length-set, List·getD-map}
 use lib.Seq.{getD-set-same, getD-set-other}
 use borrow.Author.Tests.{ne-eqb, eqb-true}
 use Rattle.rules.specs.Card as paper
-use Rattle.rules.specs.Ranges.{timings, within}
+use Rattle.rules.specs.Ranges.{timings, sleepTimings, within}
 use Rattle.rules.specs.Folds.{orElse, firstOf}
 use Rattle.rules.specs.Checks.{refusal, unless}
 use Rattle.rules.specs.Form as form
@@ -20,9 +20,9 @@ use Rattle.card.specs.Values.{timingIn, cardOf}
 use Rattle.card.specs.Reading.{good, put, readRefusal, numberOf, unlessRefused, answer, readOf, blankCard}
 use Rattle.card.specs.declared.Card.{Card}
 
--- a card's four numbers and its fourteen timings, by their place
-built : (period mr2 groups trefi : ℕ) → (ℕ → paper.Timing) → paper.Card
-built p m g r c = record {
+-- a card's four numbers, whether it sleeps, and its timings by their place
+built : (period mr2 groups trefi : ℕ) → (sleeps : Bool) → (ℕ → paper.Timing) → paper.Card
+built p m g r s c = record {
   period = p;
   mr2 = m;
   groups = g;
@@ -41,28 +41,36 @@ built p m g r c = record {
   trfcpb = c 11;
   tmrr = c 12;
   tmrw = c 13;
+  sleeps = s;
+  tcke = c 14;
+  txp = c 15;
+  tckesr = c 16;
+  txsr = c 17;
 }
 
-card-built : (card : Card) → cardOf card ≡ built (card .period) (card .mr2) (card .groups) (card .trefi) (timingIn card)
+card-built : (card : Card) → cardOf card ≡ built (card .period) (card .mr2) (card .groups) (card .trefi) (card .sleeps) (timingIn card)
 unfolding cardOf built
 card-built card = refl
 
 fields-built : (fs : List form.Field)
-    → form.cardOf fs ≡ built (form.numberAt 1 fs) (form.numberAt 2 fs) (form.numberAt 3 fs) (form.numberAt 4 fs) (λ k. form.timingAt (k + 5) fs)
+    → form.cardOf fs ≡ built (form.numberAt 1 fs) (form.numberAt 2 fs) (form.numberAt 3 fs) (form.numberAt 4 fs) (form.has 19 fs) (λ k. form.timingAt (k + 5) fs)
 unfolding form.cardOf built
 fields-built fs = refl
 
+allTimings : paper.Card → List paper.Timing
+allTimings card = timings card ++ sleepTimings card
+
 places : List ℕ
-places = 0 ∷ 1 ∷ 2 ∷ 3 ∷ 4 ∷ 5 ∷ 6 ∷ 7 ∷ 8 ∷ 9 ∷ 10 ∷ 11 ∷ 12 ∷ 13 ∷ []
+places = 0 ∷ 1 ∷ 2 ∷ 3 ∷ 4 ∷ 5 ∷ 6 ∷ 7 ∷ 8 ∷ 9 ∷ 10 ∷ 11 ∷ 12 ∷ 13 ∷ 14 ∷ 15 ∷ 16 ∷ 17 ∷ []
 
-place-is : (k : ℕ) → k < 14 → getD places k 0 ≡ k
+place-is : (k : ℕ) → k < 18 → getD places k 0 ≡ k
 unfolding places onward
-place-is k h = eqb-true (getD places k 0) k (at-each (λ j. eqb (getD places j 0) j) 0 14 refl k (omega arith) (omega arith))
+place-is k h = eqb-true (getD places k 0) k (at-each (λ j. eqb (getD places j 0) j) 0 18 refl k (omega arith) (omega arith))
 
-same-built : {p q m n g h r s : ℕ} {c d : ℕ → paper.Timing}
-    → p ≡ q → m ≡ n → g ≡ h → r ≡ s → ((k : ℕ) → k < 14 → c k ≡ d k) → built p m g r c ≡ built q n h s d
+same-built : {p q m n g h r s : ℕ} {u v : Bool} {c d : ℕ → paper.Timing}
+    → p ≡ q → m ≡ n → g ≡ h → r ≡ s → u ≡ v → ((k : ℕ) → k < 18 → c k ≡ d k) → built p m g r u c ≡ built q n h s v d
 unfolding built
-same-built a b e f at = λ i. record {
+same-built a b e f w at = λ i. record {
   period = a i;
   mr2 = b i;
   groups = e i;
@@ -81,24 +89,29 @@ same-built a b e f at = λ i. record {
   trfcpb = at 11 (lit< tt) i;
   tmrr = at 12 (lit< tt) i;
   tmrw = at 13 (lit< tt) i;
+  sleeps = w i;
+  tcke = at 14 (lit< tt) i;
+  txp = at 15 (lit< tt) i;
+  tckesr = at 16 (lit< tt) i;
+  txsr = at 17 (lit< tt) i;
 }
 
-at-place : (p m g r : ℕ) (c : ℕ → paper.Timing) (k : ℕ) → k < 14 → getD (timings (built p m g r c)) k (c 0) ≡ c k
-unfolding timings built places
-at-place p m g r c k h = List·getD-map c places k 0 ∙ ap c (place-is k h)
+at-place : (p m g r : ℕ) (s : Bool) (c : ℕ → paper.Timing) (k : ℕ) → k < 18 → getD (allTimings (built p m g r s c)) k (c 0) ≡ c k
+unfolding allTimings timings sleepTimings built places
+at-place p m g r s c k h = List·getD-map c places k 0 ∙ ap c (place-is k h)
 
 -- the card reads as what these fields say, and its columns are whole, as those of every card in the code are
 pub record Holds (card : Card) (fs : List form.Field) : Type 0 where
   pub reads : cardOf card ≡ form.cardOf fs
-  pub durations-length : length (card .durations) ≡ 14
-  pub floors-length : length (card .floors) ≡ 14
+  pub durations-length : length (card .durations) ≡ 18
+  pub floors-length : length (card .floors) ≡ 18
 
-held-timing : (card : Card) (fs : List form.Field) → Holds card fs → (k : ℕ) → k < 14 → timingIn card k ≡ form.timingAt (k + 5) fs
+held-timing : (card : Card) (fs : List form.Field) → Holds card fs → (k : ℕ) → k < 18 → timingIn card k ≡ form.timingAt (k + 5) fs
 unfolding cardOf form.cardOf built
 held-timing card fs h k lt =
-    sym (at-place (card .period) (card .mr2) (card .groups) (card .trefi) (timingIn card) k lt)
-    ∙ ap (λ (x : paper.Card). getD (timings x) k (x .trcd)) (h .reads)
-    ∙ at-place (form.numberAt 1 fs) (form.numberAt 2 fs) (form.numberAt 3 fs) (form.numberAt 4 fs) (λ j. form.timingAt (j + 5) fs) k lt
+    sym (at-place (card .period) (card .mr2) (card .groups) (card .trefi) (card .sleeps) (timingIn card) k lt)
+    ∙ ap (λ (x : paper.Card). getD (allTimings x) k (x .trcd)) (h .reads)
+    ∙ at-place (form.numberAt 1 fs) (form.numberAt 2 fs) (form.numberAt 3 fs) (form.numberAt 4 fs) (form.has 19 fs) (λ j. form.timingAt (j + 5) fs) k lt
 
 -- the newest field with a tag is the one that counts
 newest : {A : Type 0} (read : List ℕ → A) (k : ℕ) (f : form.Field) (fs : List form.Field) (old : A) → old ≡ read (form.valueOf k fs)
@@ -132,12 +145,12 @@ put-length t k l a = go (leb t 4)
     go false = length-set l k a
 
 pub holds-blank : Holds blankCard []
-unfolding blankCard cardOf timingIn form.cardOf form.numberAt form.timingAt form.valueOf form.timingOf form.number form.numberFrom
+unfolding blankCard cardOf timingIn form.cardOf form.numberAt form.timingAt form.has form.valueOf form.timingOf form.number form.numberFrom
 holds-blank = record { reads = refl; durations-length = refl; floors-length = refl }
 
 pub holds-more : (card : Card) (fs : List form.Field) (f : form.Field) → Holds card fs
     → Holds (put card (f .tag) (form.number (f .value)) (form.timingOf (f .value))) (f ∷ fs)
-unfolding form.numberAt form.timingAt put cardOf form.cardOf
+unfolding form.numberAt form.timingAt form.has put cardOf form.cardOf
 holds-more card fs f h =
     let x = form.number (f .value) in
     let y = form.timingOf (f .value) in
@@ -150,6 +163,7 @@ holds-more card fs f h =
           (newest form.number 2 f fs (card .mr2) (ap (λ (z : paper.Card). z .mr2) (h .reads)))
           (newest form.number 3 f fs (card .groups) (ap (λ (z : paper.Card). z .groups) (h .reads)))
           (newest form.number 4 f fs (card .trefi) (ap (λ (z : paper.Card). z .trefi) (h .reads)))
+          (ap (λ (z : paper.Card). eqb t 19 || z .sleeps) (h .reads))
           (λ k lt.
           let a = h .durations-length in
           let b = h .floors-length in
@@ -168,7 +182,7 @@ good-field card fs f h = rw (ap (λ (z : paper.Card). z .period) (h .reads))
 
 -- reading a field of a card's tag and of its length: in range or refused
 pub read-field : (card : Card) (fs : List form.Field) (f : form.Field) → Holds card fs
-    → within 1 18 (f .tag) ≡ true → form.lengthGood (f .tag) (length (f .value)) ≡ true
+    → within 1 22 (f .tag) ≡ true → form.lengthGood (f .tag) (length (f .value)) ≡ true
     → readOf card (f .tag) (f .value)
     ≡ cond (form.fieldGood fs f) (answer 0 (put card (f .tag) (form.number (f .value)) (form.timingOf (f .value)))) (answer 4 card)
 unfolding readOf

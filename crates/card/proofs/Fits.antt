@@ -1,17 +1,17 @@
 -- The delays of a card in range are within 32 bits: the one fact over a delay's size.
 use Prim.Native.Nat.{ℕ, _+_, _-_, _≤_, _<_}
 use mathlib.Core.Path.{_≡_}
-use mathlib.Core.Bool.{true, _&&_}
+use mathlib.Core.Bool.{true}
 use native.Mathlib.Nat.{div-le-self}
 use native.Mathlib.Omega.{arith}
 use lib.Dec.{leb, lit<}
 use borrow.Author.Tests.{leb-true}
 use Rattle.rules.specs.Card.{Timing}
-use Rattle.rules.specs.Lists.{all}
-use Rattle.rules.specs.Registers.{mr2Good}
-use Rattle.rules.specs.Ranges.{within, periodGood, groupsGood, trefiGood, timingGood, timings, cardGood}
+use Rattle.rules.specs.Ranges.{periodGood, timingGood, cardGood}
 use Rattle.rules.specs.Units.{roundedUp, n, rowCycle, delaysOf}
 use Rattle.rules.proofs.Tests.{both-true}
+use Rattle.rules.proofs.Rounding.{within-both}
+use Rattle.rules.proofs.CardGood.{good-parts}
 use Rattle.rules.proofs.Onward.{at-each}
 use Rattle.card.specs.Values.{timingIn, cardOf, clipped, shortened}
 use Rattle.card.specs.declared.Card.{Card}
@@ -33,20 +33,16 @@ rounded-le d p = div-le-self (d + (p - 1)) p
 
 module _ (card : Card) (good : cardGood (cardOf card) ≡ true) where
   -- its period, and each timing by its place
-  in-range : (card .period ≤ 100_000) × ((k : ℕ) → k < 14 → Small (timingIn card k))
-  unfolding cardGood cardOf periodGood within
+  in-range : (card .period ≤ 100_000) × ((k : ℕ) → k < 18 → Small (timingIn card k))
+  unfolding cardOf periodGood
   in-range =
-      let p = card .period in
-      let head = periodGood p && mr2Good p (card .mr2) && groupsGood (card .groups) && trefiGood p (card .trefi) in
-      let (front, each) = both-true head (all timingGood (timings (cardOf card))) good in
-      let (three, refi) = both-true (periodGood p && mr2Good p (card .mr2) && groupsGood (card .groups)) (trefiGood p (card .trefi)) front in
-      let (two, groups) = both-true (periodGood p && mr2Good p (card .mr2)) (groupsGood (card .groups)) three in
-      let (period, mr2) = both-true (periodGood p) (mr2Good p (card .mr2)) two in
-      let (low, high) = both-true (leb 938 p) (leb p 100_000) period in
-      let every = rw (all-timings card) at each in
-      (leb-true p 100_000 high, λ k lt. small (timingIn card k) (at-each (λ j. timingGood (timingIn card j)) 0 14 every k (omega arith) (omega arith)))
+      let g = good-parts (cardOf card) good in
+      let every = rw (all-timings card) at (g .timed) in (
+        within-both 938 100_000 (card .period) (g .period) .1,
+        λ k lt. small (timingIn card k) (at-each (λ j. timingGood (timingIn card j)) 0 18 every k (omega arith) (omega arith)),
+      )
 
-  timing-fits : (k : ℕ) → k < 14 → clipped (n (cardOf card) (timingIn card k)) ≡ n (cardOf card) (timingIn card k)
+  timing-fits : (k : ℕ) → k < 18 → clipped (n (cardOf card) (timingIn card k)) ≡ n (cardOf card) (timingIn card k)
   unfolding n cardOf
   timing-fits k lt =
       let (p, each) = in-range in
@@ -79,4 +75,8 @@ module _ (card : Card) (good : cardGood (cardOf card) ≡ true) where
     trfcpb = timing-fits 11 (lit< tt) i;
     tmrr = timing-fits 12 (lit< tt) i;
     tmrw = timing-fits 13 (lit< tt) i;
+    tcke = timing-fits 14 (lit< tt) i;
+    txp = timing-fits 15 (lit< tt) i;
+    tckesr = timing-fits 16 (lit< tt) i;
+    txsr = timing-fits 17 (lit< tt) i;
   }

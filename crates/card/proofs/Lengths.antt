@@ -54,6 +54,6 @@ unfolding lengthGood
 at-most a b t l rows e h =
     leb-true l b (rw (le-leb t a h) at (listed-has (λ k s. cond (leb k a) (leb s b) true) lengths t l rows e))
 
-pub card-length : (t l : ℕ) → lengthGood t l ≡ true → (t ≤ 18 → l ≤ 5) × (t ≤ 4 → l ≤ 4)
+pub card-length : (t l : ℕ) → lengthGood t l ≡ true → (t ≤ 22 → l ≤ 5) × (t ≤ 4 → l ≤ 4)
 unfolding lengths _of_ all
-card-length t l e = (at-most 18 5 t l refl e, at-most 4 4 t l refl e)
+card-length t l e = (at-most 22 5 t l refl e, at-most 4 4 t l refl e)

@@ -12,6 +12,7 @@ use Rattle.card.proofs.registers.mr2_good as mr2-good
 use Rattle.card.proofs.timings.delays_of as delays-of
 use Rattle.card.proofs.timings.interval as interval
 use Rattle.card.proofs.units.greater as greater
+use Rattle.card.proofs.tags.may_come as may-come
 use Rattle.card.proofs.benched.bench as bench
 use Rattle.card.proofs.values.blank as blank
 use Rattle.card.proofs.values.length_good as length-good
@@ -73,6 +74,10 @@ delaysIn d = record {
   trfcpb = d .trfcpb;
   tmrr = d .tmrr;
   tmrw = d .tmrw;
+  tcke = d .tcke;
+  txp = d .txp;
+  tckesr = d .tckesr;
+  txsr = d .txsr;
 }
 
 -- delays with the same numbers are one
@@ -112,3 +117,9 @@ read-value-says w = read-value.clauses (w .𝓤) (w .H) (w .𝓖 .A) (w .𝓜 .m
 pub read-value-determined : Determined read-value.ended read-value-says
 read-value-determined =
     determined read-value.ended read-value-says (λ κs a r e. fact-of _) (λ κs a r r′ ws ws′ p p′. (read-is _ _ _ r p ∙ sym (read-is _ _ _ r′ p′), refl))
+
+abbrev may-come-says : Promise may-come.ended
+may-come-says w = may-come.clauses (w .𝓤) (w .H) (w .𝓖 .A) (w .𝓜 .mem) (w .𝓡 .run)
+
+pub may-come-determined : Determined may-come.ended may-come-says
+may-come-determined = determined may-come.ended may-come-says (λ κs a r e. fact-of _) (λ κs a r r′ ws ws′ p p′. (p ∙ sym p′, refl))

@@ -38,11 +38,11 @@ number-is k = ⊎-elim
     (eq-cases k 0)
 
 module _ (c : Card) (t : ℕ) (v : List ℕ) where
-  pub bad-tag : within 1 18 t ≡ false → ReadAs c t v (answer 2 c)
+  pub bad-tag : within 1 22 t ≡ false → ReadAs c t v (answer 2 c)
   unfolding readRefusal firstOf orElse unless refusalOf unlessRefused
   bad-tag e = record { told = rw e; card = rw e }
 
-  module _ (tag : within 1 18 t ≡ true) where
+  module _ (tag : within 1 22 t ≡ true) where
     pub bad-length : lengthGood t (length v) ≡ false → ReadAs c t v (answer 3 c)
     unfolding readRefusal firstOf orElse unless refusalOf unlessRefused
     bad-length e = record { told = rw (tag, e); card = rw (tag, e) }

@@ -1,4 +1,5 @@
 -- Document 01's bench card in the code's columns; that it is the rules' own is a law (proofs/BenchCard).
+use mathlib.Core.Bool.{false}
 use mathlib.Core.List.{[], _∷_}
 use Rattle.card.specs.declared.Card.{Card}
 
@@ -9,6 +10,7 @@ benchCard = record {
   groups = 8192;
   trefi = 3_900_000;
   durations =
-      18000 ∷ 18000 ∷ 21000 ∷ 42000 ∷ 10000 ∷ 50000 ∷ 7500 ∷ 15000 ∷ 7500 ∷ 5500 ∷ 130000 ∷ 60000 ∷ 0 ∷ 0 ∷ [];
-  floors = 3 ∷ 3 ∷ 3 ∷ 3 ∷ 2 ∷ 8 ∷ 4 ∷ 4 ∷ 4 ∷ 0 ∷ 0 ∷ 0 ∷ 4 ∷ 10 ∷ [];
+      18000 ∷ 18000 ∷ 21000 ∷ 42000 ∷ 10000 ∷ 50000 ∷ 7500 ∷ 15000 ∷ 7500 ∷ 5500 ∷ 130000 ∷ 60000 ∷ 0 ∷ 0 ∷ 0 ∷ 0 ∷ 0 ∷ 0 ∷ [];
+  floors = 3 ∷ 3 ∷ 3 ∷ 3 ∷ 2 ∷ 8 ∷ 4 ∷ 4 ∷ 4 ∷ 0 ∷ 0 ∷ 0 ∷ 4 ∷ 10 ∷ 0 ∷ 0 ∷ 0 ∷ 0 ∷ [];
+  sleeps = false;
 }

@@ -1,7 +1,7 @@
 -- What the value of a card's field makes of a card: refusal 2 (tag), 3 (length), 4 (range), or the card with the value in it.
 use Prim.Native.Nat.{ℕ, _-_}
 use mathlib.Core.Path.{_≡_}
-use mathlib.Core.Bool.{Bool, cond, _||_}
+use mathlib.Core.Bool.{Bool, false, cond, _||_}
 use mathlib.Core.List.{List, [], _∷_}
 use mathlib.Core.Option.{Option, none, some}
 use lib.Dec.{leb, eqb}
@@ -19,9 +19,9 @@ use Rattle.card.specs.declared.Read.{Read}
 unfoldable pub sizeOf : ℕ → ℕ
 sizeOf t =
     cond (eqb t 1 || eqb t 4 || eqb t 33) 4
-    (cond (eqb t 2) 1 (cond (eqb t 3) 2 (cond (within 5 18 t) 5 (cond (eqb t 32) 7 0))))
+    (cond (eqb t 2) 1 (cond (eqb t 3) 2 (cond (within 5 22 t) 5 (cond (eqb t 32) 7 0))))
 
--- whether a value is in range: tags 1 to 4 are the number x, tags 5 to 18 the timing y
+-- whether a value is in range: tags 1 to 4 are the number x, tags 5 to 22 the timing y
 unfoldable pub good : (period tag x : ℕ) → paper.Timing → Bool
 good p t x y =
     cond (eqb t 1) (periodGood x)
@@ -36,12 +36,13 @@ put c t x y = record {
   trefi = cond (eqb t 4) x (c .trefi);
   durations = cond (leb t 4) (c .durations) (set (c .durations) (t - 5) (y .duration));
   floors = cond (leb t 4) (c .floors) (set (c .floors) (t - 5) (y .floor));
+  sleeps = eqb t 19 || c .sleeps;
 }
 
 -- what is refused, by document 01's numbers: the tag, the length, the range
 unfoldable pub readRefusal : Card → (tag : ℕ) → List ℕ → Option Refusal
 readRefusal c t v =
-    firstOf (unless (within 1 18 t) 2 ∷ unless (lengthGood t (length v)) 3 ∷ unless (good (c .period) t (number v) (timingOf v)) 4 ∷ [])
+    firstOf (unless (within 1 22 t) 2 ∷ unless (lengthGood t (length v)) 3 ∷ unless (good (c .period) t (number v) (timingOf v)) 4 ∷ [])
 
 -- the numbers that the code's one stands for; 0 is none
 unfoldable pub refusalOf : ℕ → Option Refusal
@@ -74,4 +75,4 @@ unfoldable pub taken : Card → (tag x : ℕ) → paper.Timing → Read
 taken c t x y = cond (good (c .period) t x y) (answer 0 (put c t x y)) (answer 4 c)
 
 unfoldable pub blankCard : Card
-blankCard = record { period = 0; mr2 = 0; groups = 0; trefi = 0; durations = replicate 14 0; floors = replicate 14 0 }
+blankCard = record { period = 0; mr2 = 0; groups = 0; trefi = 0; durations = replicate 18 0; floors = replicate 18 0; sleeps = false }

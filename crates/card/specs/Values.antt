@@ -33,6 +33,11 @@ cardOf card = record {
   trfcpb = timingIn card 11;
   tmrr = timingIn card 12;
   tmrw = timingIn card 13;
+  sleeps = card .sleeps;
+  tcke = timingIn card 14;
+  txp = timingIn card 15;
+  tckesr = timingIn card 16;
+  txsr = timingIn card 17;
 }
 
 unfoldable pub clocksOf : Delays → units.Delays
@@ -52,6 +57,10 @@ clocksOf d = record {
   trfcpb = d .trfcpb;
   tmrr = d .tmrr;
   tmrw = d .tmrw;
+  tcke = d .tcke;
+  txp = d .txp;
+  tckesr = d .tckesr;
+  txsr = d .txsr;
 }
 
 -- in 32 bits: the most that they hold stands for anything beyond, which no card in range comes to (proofs/Fits)
@@ -75,4 +84,8 @@ shortened d = record {
   trfcpb = clipped (d .trfcpb);
   tmrr = clipped (d .tmrr);
   tmrw = clipped (d .tmrw);
+  tcke = clipped (d .tcke);
+  txp = clipped (d .txp);
+  tckesr = clipped (d .tckesr);
+  txsr = clipped (d .txsr);
 }

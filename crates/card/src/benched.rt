@@ -1,4 +1,4 @@
-// Document 01's bench card.
+// Document 01's bench card, which has no tags 19 to 22.
 ghost use mathlib.Core.Path.{_≡_};
 ghost use Rattle.card.specs.Bench.{benchCard};
 use crate::Card;
@@ -26,7 +26,12 @@ pub fn bench() -> Card
             60000,
             0,
             0,
+            0,
+            0,
+            0,
+            0,
         ],
-        floors: [3, 3, 3, 3, 2, 8, 4, 4, 4, 0, 0, 0, 4, 10],
+        floors: [3, 3, 3, 3, 2, 8, 4, 4, 4, 0, 0, 0, 4, 10, 0, 0, 0, 0],
+        sleeps: false,
     }
 }

@@ -2,6 +2,7 @@
 mod benched;
 mod ranges;
 mod registers;
+mod tags;
 mod timings;
 mod units;
 mod values;
@@ -11,6 +12,7 @@ pub use ranges::in_range;
 pub use registers::latency_of;
 pub use registers::mr2_good;
 pub use registers::mrw_value_good;
+pub use tags::may_come;
 pub use timings::delays_of;
 pub use timings::interval;
 pub use units::greater;
@@ -22,15 +24,16 @@ pub struct Picoseconds(pub u64);
 
 pub struct Clocks(pub u64);
 
-// `durations` and `floors` are the two columns of tags 5 to 18: trcd, trppb, trpab, tras, trrd, tfaw, trtp, twr, twtr, tdqsck,
-// trfcab, trfcpb, tmrr, tmrw.
+// `durations` and `floors` are the two columns of tags 5 to 22: trcd, trppb, trpab, tras, trrd, tfaw, trtp, twr, twtr, tdqsck,
+// trfcab, trfcpb, tmrr, tmrw, tcke, txp, tckesr, txsr. `sleeps`: tags 19 to 22 are there.
 pub struct Card {
     pub period: u32,
     pub mr2: u8,
     pub groups: u16,
     pub trefi: u32,
-    pub durations: [u32; 14],
-    pub floors: [u8; 14],
+    pub durations: [u32; 18],
+    pub floors: [u8; 18],
+    pub sleeps: bool,
 }
 
 // In clocks, in 32 bits, which hold every delay of a card in range.
@@ -50,6 +53,10 @@ pub struct Delays {
     pub trfcpb: u32,
     pub tmrr: u32,
     pub tmrw: u32,
+    pub tcke: u32,
+    pub txp: u32,
+    pub tckesr: u32,
+    pub txsr: u32,
 }
 
 pub struct Latency {

@@ -1,5 +1,6 @@
 // What each value of the card may be.
 ghost use mathlib.Core.Path.{_≡_};
+ghost use mathlib.Core.List.{_++_};
 ghost use Rattle.rules.specs.Lists as lists;
 ghost use Rattle.rules.specs.Ranges as paper;
 ghost use Rattle.card.specs.Reading.{good};
@@ -43,10 +44,10 @@ pub fn value_good(period: u32, tag: u8, x: u32, floor: u8) -> bool
 }
 
 fn timings_good(card: Card) -> bool
-    ensures { λ r. ⌜ r ≡ lists.all paper.timingGood (paper.timings (cardOf card)) ⌝ }
+    ensures { λ r. ⌜ r ≡ lists.all paper.timingGood (paper.timings (cardOf card) ++ paper.sleepTimings (cardOf card)) ⌝ }
 {
     let mut i: usize = 0;
-    while i < 14 {
+    while i < 18 {
         if !timing_good(card.durations[i], card.floors[i]) {
             return false;
         }

@@ -26,7 +26,7 @@ fn clocks(x: u8) -> Clocks
 
 // The timing at this place of the two columns.
 fn timing(card: Card, i: usize) -> Timing
-    requires { ⌜ i < 14 ⌝ }
+    requires { ⌜ i < 18 ⌝ }
     ensures { λ r. ⌜ Timed card i r ⌝ }
 {
     Timing {
@@ -47,18 +47,18 @@ fn short(k: Clocks) -> u32
 
 // n(x)
 fn timing_clocks(card: Card, i: usize) -> u32
-    requires { ⌜ i < 14 ⌝ }
+    requires { ⌜ i < 18 ⌝ }
     ensures { λ r. ⌜ r ≡ clipped (paper.n (cardOf card) (timingIn card i)) ⌝ }
 {
     short(least_clocks(timing(card, i), picoseconds(card.period)))
 }
 
-fn all_clocks(card: Card) -> [u32; 14]
-    ensures { λ r. ⌜ Counted card 14 r ⌝ }
+fn all_clocks(card: Card) -> [u32; 18]
+    ensures { λ r. ⌜ Counted card 18 r ⌝ }
 {
-    let mut out = [0; 14];
+    let mut out = [0; 18];
     let mut i: usize = 0;
-    while i < 14 {
+    while i < 18 {
         out[i] = timing_clocks(card, i);
         i += 1;
     }
@@ -106,6 +106,10 @@ pub fn delays_of(card: Card) -> Delays
         trfcpb: n[11],
         tmrr: n[12],
         tmrw: n[13],
+        tcke: n[14],
+        txp: n[15],
+        tckesr: n[16],
+        txsr: n[17],
     }
 }
 

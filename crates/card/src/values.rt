@@ -23,7 +23,7 @@ fn listed(tag: u8) -> usize
     if tag == 3 {
         return 2;
     }
-    if (5 <= tag) & (tag <= 18) {
+    if (5 <= tag) & (tag <= 22) {
         return 5;
     }
     if tag == 32 {
@@ -81,7 +81,7 @@ fn fifth(value: &[u8]) -> u8
 }
 
 fn put(card: Card, tag: u8, x: u32, floor: u8) -> Card
-    requires { ⌜ (1 ≤ tag) × (tag ≤ 18) × (reading.good (card .period) tag x (timing x floor) ≡ true) ⌝ }
+    requires { ⌜ (1 ≤ tag) × (tag ≤ 22) × (reading.good (card .period) tag x (timing x floor) ≡ true) ⌝ }
     ensures { λ r. ⌜ r ≡ reading.put card tag x (timing x floor) ⌝ }
 {
     let mut next = card;
@@ -104,11 +104,12 @@ fn put(card: Card, tag: u8, x: u32, floor: u8) -> Card
     let i = (tag - 5) as usize;
     next.durations[i] = x;
     next.floors[i] = floor;
+    next.sleeps = (tag == 19) | card.sleeps;
     next
 }
 
 fn taken(card: Card, tag: u8, x: u32, floor: u8) -> Read
-    requires { ⌜ (1 ≤ tag) × (tag ≤ 18) ⌝ }
+    requires { ⌜ (1 ≤ tag) × (tag ≤ 22) ⌝ }
     ensures { λ r. ⌜ r ≡ reading.taken card tag x (timing x floor) ⌝ }
 {
     if value_good(card.period, tag, x, floor) {
@@ -127,7 +128,7 @@ fn taken(card: Card, tag: u8, x: u32, floor: u8) -> Read
 pub fn read_value(card: Card, tag: u8, value: &[u8]) -> Read
     ensures { λ r. ⌜ reading.ReadAs card tag (now (value .entry)) r ⌝ }
 {
-    if !((1 <= tag) & (tag <= 18)) {
+    if !((1 <= tag) & (tag <= 22)) {
         return Read {
             refusal: 2,
             card: card,
@@ -151,7 +152,8 @@ pub fn blank() -> Card
         mr2: 0,
         groups: 0,
         trefi: 0,
-        durations: [0; 14],
-        floors: [0; 14],
+        durations: [0; 18],
+        floors: [0; 18],
+        sleeps: false,
     }
 }

@@ -5,9 +5,9 @@ use mathlib.Core.Bool.{Bool, true, false, cond}
 use mathlib.Core.List.{List, [], _∷_}
 use mathlib.Core.Option.{Option, none, some}
 use native.Mathlib.Omega.{arith}
-use lib.Dec.{leb, eqb}
+use lib.Dec.{eqb}
 use lib.ListN.{length, take}
-use borrow.Author.Tests.{eqb-true, leb-false}
+use borrow.Author.Tests.{eqb-true, eqb-false}
 use Rattle.rules.specs.Checks.{Refusal}
 use Rattle.rules.specs.Form as form
 use Rattle.rules.specs.Lent as lent
@@ -20,7 +20,7 @@ use Rattle.chunks.specs.declared.fields.Move.{Move}
 use Rattle.chunks.specs.declared.fields.Move.the-variants.{On, Wait, End}
 use Rattle.chunks.specs.declared.fields.Took.{Took}
 use Rattle.chunks.specs.declared.heads.Head.the-variants.{Whole}
-use Rattle.chunks.specs.Took.{tookAs, refusedHere, refusedBy, cardAfter, cardTook, entryAfter, entryRefused, entryTook, endAfter, endTook, fieldTook, headTook, behindTook, asRead, tookOf}
+use Rattle.chunks.specs.Took.{tookAs, refusedHere, refusedBy, cardAfter, cardTook, entryAfter, entryRefused, entryTook, endAfter, endTook, fieldTook, headTook, behindTook, newest, headAt, tookOf}
 use Rattle.chunks.specs.Heard.{fieldLine, headLine, lineOf}
 use Rattle.chunks.specs.Parts.{fieldIn, headAs, NoneHere}
 use Rattle.chunks.proofs.Fronts.{Fronted, front}
@@ -73,21 +73,22 @@ unfolding behindTook refusedBy
 behind-on st [] n e = wait-on e
 behind-on st (b ∷ bs) n e = end-on e
 
-took-on : (st : State) (bs : List ℕ) (n : ℕ) → tookOf st bs .how ≡ On n → (st .read ≤ 18) × (headAs (form.headOf (asRead (st .read)) bs) ≡ Whole n)
+took-on : (st : State) (bs : List ℕ) (n : ℕ) → tookOf st bs .how ≡ On n → (st .tag ≡ 33 → ⊥) × (headAs (headAt st bs) ≡ Whole n)
 unfolding tookOf
-took-on st bs n = go (leb 19 (st .read)) refl
+took-on st bs n = go (eqb (st .tag) 33) refl
   where
-    go : (b : Bool) → leb 19 (st .read) ≡ b → cond b (behindTook st bs) (headTook st (form.headOf (asRead (st .read)) bs)) .how ≡ On n
-        → (st .read ≤ 18) × (headAs (form.headOf (asRead (st .read)) bs) ≡ Whole n)
+    go : (b : Bool) → eqb (st .tag) 33 ≡ b → cond b (behindTook st bs) (headTook st (headAt st bs)) .how ≡ On n
+        → (st .tag ≡ 33 → ⊥) × (headAs (headAt st bs) ≡ Whole n)
     go true l e = behind-on st bs n e
-    go false l e = (let h = leb-false 19 (st .read) l in omega arith, head-on st (form.headOf (asRead (st .read)) bs) n e)
+    go false l e = (eqb-false (st .tag) 33 l, head-on st (headAt st bs) n e)
 
 pub record OnField (st : State) (bs : List ℕ) (n : ℕ) : Type 0 where
-  pub in-time : st .read ≤ 18
-  pub fronted : Fronted (asRead (st .read)) bs n
+  pub in-time : st .tag ≡ 33 → ⊥
+  pub fronted : Fronted (st .rec .last .seen) (newest (st .tag)) bs n
 
 pub on-field : (st : State) (bs : List ℕ) (n : ℕ) → tookOf st bs .how ≡ On n → OnField st bs n
-on-field st bs n e = let t = took-on st bs n e in record { in-time = t .0; fronted = front (asRead (st .read)) bs n (t .1) }
+unfolding headAt
+on-field st bs n e = let t = took-on st bs n e in record { in-time = t .0; fronted = front (st .rec .last .seen) (newest (st .tag)) bs n (t .1) }
 
 pub taken-size : (st : State) (bs : List ℕ) (n : ℕ) → tookOf st bs .how ≡ On n → (3 ≤ n) × (n ≤ length bs)
 taken-size st bs n e = let f = on-field st bs n e .fronted in (f .least, f .long)
@@ -104,10 +105,10 @@ field-line st f n true t r e = refused-ends (entryRefused st f) st _ n (r (eqb-t
 field-line st f n false t r e = rw t
 
 pub no-line : (st : State) (bs : List ℕ) (n : ℕ) → NoneHere st bs → tookOf st bs .how ≡ On n → lineOf st bs ≡ []
-unfolding lineOf headLine fieldIn entryRefused
+unfolding lineOf headAt headLine fieldIn entryRefused
 no-line st bs n gone e =
     let o = on-field st bs n e in
     let w = whole-took st bs (o .in-time) n (o .fronted) in
     rw (o .fronted .is)
     (field-line st (fieldIn (take n bs)) n _ refl
-    (λ t. refused-in (st .rec) (take n bs) (not-taken st bs n (o .in-time) (o .fronted) t gone)) (ap (λ (x : Took). x .how) w ∙ e))
+    (λ t. refused-in (st .rec) (take n bs) (not-taken st bs n (o .fronted) t gone)) (ap (λ (x : Took). x .how) w ∙ e))

@@ -21,10 +21,10 @@ use Rattle.bank.specs.declared.Record.{Record}
 use Rattle.bank.specs.Values.{lentOf}
 use Rattle.step.specs.Runs.{entryAt, takes}
 use Rattle.chunks.specs.declared.State.{State}
-use Rattle.chunks.specs.Took.{asRead}
+use Rattle.chunks.specs.Took.{newest}
 use Rattle.chunks.specs.Parts.{fieldIn, NotTaken, NoneHere}
 use Rattle.chunks.proofs.Sizes.{entry-size}
-use Rattle.chunks.proofs.Fronts.{Fronted, head-is, front, may-come-as}
+use Rattle.chunks.proofs.Fronts.{Fronted, head-is, front, come-as}
 
 not-so : {A : Type 0} → false ≡ true → A
 not-so e = absurd (let z : _≡_ {A = ℕ} 0 1 = cc in omega arith)
@@ -58,16 +58,15 @@ module _ (bs : List ℕ) (w : frontOf bs .whole ≡ true) where
   pub front-tag : getD bs 0 0 ≡ 32
   front-tag = starts .0
 
-  -- behind the card it is a whole field
-  pub entry-fronted : (read : ℕ) → read ≡ 18 → Fronted (asRead read) bs 10
-  entry-fronted read e =
-      front (asRead read) bs 10
-      (head-is (asRead read) bs
+  -- where an entry may come it is a whole field
+  pub entry-fronted : (b : Bool) (fs : List form.Field) → form.mayCome b fs 32 ≡ true → Fronted b fs bs 10
+  entry-fronted b fs comes =
+      front b fs bs 10
+      (head-is b fs bs
       ∙ rw (
         ne-eqb (length bs) 0 (λ z. omega (arith, entry-room bs w)),
-        may-come-as read (getD bs 0 0),
-        e,
         starts .0,
+        comes,
         le-ltb (length bs) 3 (omega (arith, entry-room bs w)),
         starts .1,
         starts .2,
@@ -97,15 +96,7 @@ is-front : (bs : List ℕ) → 10 ≤ length bs → getD bs 0 0 ≡ 32 → 256 *
 unfolding frontOf isEntry
 is-front bs l t n = rw (le-leb 10 (length bs) l, t, eq-eqb (getD bs 1 0) 0 (omega arith), eq-eqb (getD bs 2 0) 7 (omega arith))
 
--- comes behind the card
-behind-card : (read : ℕ) → form.mayCome (asRead read) 32 ≡ true → read ≤ 18 → read ≡ 18
-behind-card read e h = go (eqb read 18) refl (rw (may-come-as read 32) at e)
-  where
-    go : (b : Bool) → eqb read 18 ≡ b → cond b true (eqb 32 (read + 1)) ≡ true → read ≡ 18
-    go true f z = eqb-true read 18 f
-    go false f z = let y = eqb-true 32 (read + 1) z in omega arith
-
-module _ (st : State) (bs : List ℕ) (n : ℕ) (in-time : st .read ≤ 18) (f : Fronted (asRead (st .read)) bs n) (tag : getD (take n bs) 0 0 ≡ 32) where
+module _ (st : State) (bs : List ℕ) (n : ℕ) (f : Fronted (st .rec .last .seen) (newest (st .tag)) bs n) (tag : getD (take n bs) 0 0 ≡ 32) where
   tag-here : getD bs 0 0 ≡ 32
   tag-here = let l = f .least in sym (getD-take n bs 0 0 (omega arith)) ∙ tag
 
@@ -122,5 +113,5 @@ module _ (st : State) (bs : List ℕ) (n : ℕ) (in-time : st .read ≤ 18) (f :
       record {
         size = length-take-le n bs (f .long) ∙ ten;
         whole = rw same (is-front bs l tag-here (omega arith));
-        refused = rw same (gone (behind-card (st .read) (rw tag-here at (f .tag)) in-time));
+        refused = rw same (gone (sym (come-as (st .rec .last .seen) (st .tag) 32) ∙ rw tag-here at (f .tag)));
       }

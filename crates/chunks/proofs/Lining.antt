@@ -8,7 +8,8 @@ use lib.ListN.{length, take, drop, length-append, length-drop, drop-of-length-le
 use lib.Seq.{take-at, drop-at, drop-drop}
 use Rattle.lines.specs.Written.{Lined}
 use Rattle.lines.specs.Runs.{linesAt, lineCount}
-use Rattle.chunks.specs.Parts.{linesIf}
+use Rattle.bank.specs.declared.Record.{Record}
+use Rattle.chunks.specs.Parts.{standsIn, linesIf}
 
 pub lined-nothing : (old : List ℕ) → Lined [] old old 0
 lined-nothing old = record { count = refl; fits = omega arith; memory = refl }
@@ -36,13 +37,13 @@ module _ {text old new : List ℕ} {wrote : ℕ} (l : Lined text old new wrote) 
     lined-more = record { count = rw (length-append, ← l .count, ← m .count); fits = more-fits; memory = more-memory }
 
 -- ---- the lines of many
-pub lines-quiet : (q : Bool) (k n : ℕ) (bs old : List ℕ) → q ≡ true → Lined (linesIf q k n bs) old old 0
+pub lines-quiet : (q : Bool) (k : ℕ) (rec : Record) (bs old : List ℕ) → q ≡ true → Lined (linesIf q k rec bs) old old 0
 unfolding linesIf
-lines-quiet q k n bs old e = rw e (lined-nothing old)
+lines-quiet q k rec bs old e = rw e (lined-nothing old)
 
-pub lines-all : (q : Bool) (k n : ℕ) (bs old new : List ℕ) (r : ℕ) → q ≡ false → 10 * k ≤ length bs → 24 * k ≤ length old - 40
-    → Lined (linesAt (lineCount k (length bs) (length old)) n bs) old new r → Lined (linesIf q k n bs) old new r
+pub lines-all : (q : Bool) (k : ℕ) (rec : Record) (bs old new : List ℕ) (r : ℕ) → q ≡ false → 10 * k ≤ length bs → 24 * k ≤ length old - 40
+    → Lined (linesAt (rec .card .sleeps) (lineCount k (length bs) (length old)) (standsIn rec) bs) old new r → Lined (linesIf q k rec bs) old new r
 unfolding linesIf
-lines-all q k n bs old new r e h room l =
+lines-all q k rec bs old new r e h room l =
     let all : lineCount k (length bs) (length old) ≡ k = omega arith in
     rw e (rw all at l)

@@ -10,35 +10,40 @@ use lib.ListN.{length, take, drop, length-drop}
 use lib.Seq.{length-take-le, getD-take}
 use mir.Syntax.{w64}
 use mir.Val.{Fits}
-use borrow.Author.Tests.{eq-eqb, leb-true, le-leb, lt-leb}
+use borrow.Author.Tests.{eq-eqb, ne-eqb, leb-true, le-leb}
+use Rattle.rules.specs.Levels.{Read, levelAfter, readPins}
+use Rattle.rules.specs.Entries.{recordedAs, moveOf}
 use Rattle.rules.specs.Entries as entries
 use Rattle.rules.specs.Form as form
-use Rattle.rules.specs.Lent.{commandIn, stepRefusal}
-use Rattle.rules.proofs.Sound.{step-passed, sound}
+use Rattle.rules.specs.Lent.{Ledger, readIn, commandIn, moveIn, effectOf, effectIn, atLevel, entered, ledgerWith, stepRefusal}
+use Rattle.rules.proofs.Sound.{step-passed, sound, sound-ledger, ledger-kept}
+use Rattle.card.specs.Values.{cardOf}
+use Rattle.pins.specs.Values.{levelOf}
 use Rattle.pins.specs.Fronts.{frontOf}
-use Rattle.pins.specs.Counter.{counterOn}
 use Rattle.pins.proofs.Fronts.{entry-room}
+use Rattle.ledger.specs.Values.{ledgerOf, codeOf}
 use Rattle.bank.specs.declared.Record.{Record}
-use Rattle.bank.specs.Values.{lentOf}
-use Rattle.bank.specs.After.{recordAfter}
+use Rattle.bank.specs.Values.{shareOf, lentOf}
+use Rattle.bank.specs.After.{shareAfter, recordAfter}
 use Rattle.bank.proofs.Remembered.{bank-low}
+use Rattle.bank.proofs.Changed.{recorded-bank}
 use Rattle.step.specs.declared.Ran.{Ran}
 use Rattle.step.specs.Values.{recordWith}
 use Rattle.step.specs.Runs.{entryAt, takes, commandsBy, refreshesBy, ran, behind, runOf}
-use Rattle.step.proofs.Leaves.{bank-by}
+use Rattle.step.proofs.Kept.{ledger-back}
 use Rattle.step.proofs.Onward.{taken-if}
 use Rattle.lines.specs.Written.{Lined}
-use Rattle.lines.specs.Runs.{commandAt, lineAt, linesAt}
+use Rattle.lines.specs.Runs.{Standing, standingAfter, lineAt, nextAt, linesAt}
 use Rattle.chunks.specs.declared.State.{State}
 use Rattle.chunks.specs.declared.fields.Move.the-variants.{On}
 use Rattle.chunks.specs.declared.fields.Took.{Took}
-use Rattle.chunks.specs.Took.{tookAs, entryAfter, entryRefused, entryTook, fieldTook, headTook, asRead, tookOf}
+use Rattle.chunks.specs.Took.{tookAs, entryAfter, entryRefused, entryTook, fieldTook, headTook, newest, headAt, tookOf}
 use Rattle.chunks.specs.Heard.{fieldLine, headLine, lineOf}
-use Rattle.chunks.specs.Parts.{fieldIn, linesIf, Leads, stateWith, Leapt}
+use Rattle.chunks.specs.Parts.{fieldIn, standsIn, linesIf, Leads, stateWith, entryMayCome, Leapt}
 use Rattle.chunks.proofs.Bytes.{Bytes, bytes-drop, four-small}
 use Rattle.chunks.proofs.Wraps.{wrapped-is, wrapped-small, wrapped-twice}
 use Rattle.chunks.proofs.Sizes.{size-in}
-use Rattle.chunks.proofs.Fronts.{Fronted}
+use Rattle.chunks.proofs.Fronts.{Fronted, come-as, still-comes, not-behind}
 use Rattle.chunks.proofs.Entries.{front-is, front-tag, entry-fronted, entry-part}
 use Rattle.chunks.proofs.Short.{entry-short}
 use Rattle.chunks.proofs.Turns.{hasRoom, lineIf}
@@ -56,22 +61,22 @@ pub small-by : (st : State) → Fits w64 (st .commands) → Fits w64 (st .refres
 small-by st c r o = record { commands = omega arith; refreshes = omega arith; offset = omega arith }
 
 -- ---- one entry
-module _ (st : State) (bs : List ℕ) (read : st .read ≡ 18) (b : Bytes bs) (go : takes (st .rec) bs ≡ true) where
+module _ (st : State) (bs : List ℕ) (comes : entryMayCome st ≡ true) (b : Bytes bs) (go : takes (st .rec) bs ≡ true) where
   parts : (frontOf bs .whole ≡ true) × (stepRefusal (lentOf (st .rec)) (entryAt bs) ≡ none)
   parts = taken-if (st .rec) bs go
 
   long : 10 ≤ length bs
   long = entry-room bs (parts .0)
 
-  low : st .rec .counter ≤ 7
-  unfolding lentOf
-  low = leb-true (st .rec .counter) 7 (sound (lentOf (st .rec)) (step-passed (lentOf (st .rec)) (entryAt bs) (parts .1) .good) .counter)
+  low : st .rec .share .counter ≤ 7
+  unfolding lentOf shareOf
+  low = leb-true (st .rec .share .counter) 7 (sound (lentOf (st .rec)) (step-passed (lentOf (st .rec)) (entryAt bs) (parts .1) .good) .counter)
 
   abbrev field : form.Field
   field = fieldIn (take 10 bs)
 
-  fronted : Fronted (asRead (st .read)) bs 10
-  fronted = entry-fronted bs (parts .0) (st .read) read
+  fronted : Fronted (st .rec .last .seen) (newest (st .tag)) bs 10
+  fronted = entry-fronted bs (parts .0) (st .rec .last .seen) (newest (st .tag)) (come-as (st .rec .last .seen) (st .tag) 32 ∙ comes)
 
   entry-is : form.entryOf field ≡ entryAt bs
   entry-is = entry-part bs (parts .0)
@@ -83,9 +88,15 @@ module _ (st : State) (bs : List ℕ) (read : st .read ≡ 18) (b : Bytes bs) (g
   size-is : form.sizeOf field ≡ 10
   size-is = let e = length-take-le 10 bs long in size-in (take 10 bs) (rw e (omega arith)) ∙ e
 
-  command-is : commandIn (lentOf (st .rec)) (entryAt bs) ≡ commandAt bs
-  unfolding commandIn entries.read
-  command-is = refl
+  abbrev stands : Standing
+  stands = standsIn (st .rec)
+
+  abbrev here : Read
+  here = readPins (st .rec .card .sleeps) (stands .level) (frontOf bs .pins)
+
+  read-is : readIn (lentOf (st .rec)) (entryAt bs) ≡ here
+  unfolding readIn entries.read lentOf shareOf ledgerOf cardOf
+  read-is = refl
 
   -- the state behind it
   abbrev pub next : State
@@ -96,9 +107,9 @@ module _ (st : State) (bs : List ℕ) (read : st .read ≡ 18) (b : Bytes bs) (g
   after-is = rw (entry-is, size-is)
 
   took-here : tookOf st bs ≡ tookAs (On 10) next
-  unfolding tookOf headTook fieldTook entryTook entryRefused
+  unfolding tookOf headAt headTook fieldTook entryTook entryRefused
   took-here = rw (
-    lt-leb 19 (st .read) (omega (arith, read)),
+    ne-eqb (st .tag) 33 (not-behind (st .rec .last .seen) (st .tag) comes),
     fronted .is,
     headTook,
     fieldTook,
@@ -110,23 +121,36 @@ module _ (st : State) (bs : List ℕ) (read : st .read ≡ 18) (b : Bytes bs) (g
     after-is,
   )
 
-  line-here : lineOf st bs ≡ lineAt (st .rec .counter) bs
-  unfolding lineOf headLine fieldLine lineAt
-  line-here = rw (fronted .is, headLine, fieldLine, eq-eqb (field .tag) 32 tag-is, entry-is, command-is)
+  line-here : lineOf st bs ≡ lineAt (st .rec .card .sleeps) stands bs
+  unfolding lineOf headAt headLine fieldLine lineAt commandIn
+  line-here = rw (fronted .is, headLine, fieldLine, eq-eqb (field .tag) 32 tag-is, entry-is, read-is)
 
-  line-short : length (lineAt (st .rec .counter) bs) ≤ 24
+  line-short : length (lineAt (st .rec .card .sleeps) stands bs) ≤ 24
   unfolding lineAt
   line-short =
-      entry-short (record { stamp = frontOf bs .stamp; cmd = commandAt bs }) (st .rec .counter)
-      (rw (front-is bs (parts .0)) (four-small (drop 3 bs) (bytes-drop 3 bs b))) (bank-low (commandAt bs) (st .rec .counter) low (bank-by (frontOf bs .pins) _ refl))
+      entry-short (frontOf bs .stamp) (recordedAs here) (st .rec .share .counter)
+      (rw (front-is bs (parts .0)) (four-small (drop 3 bs) (bytes-drop 3 bs b)))
+      (bank-low (recordedAs here) (st .rec .share .counter) low (recorded-bank (st .rec .card .sleeps) (stands .level) (frontOf bs .pins)))
 
-  next-counter : next .rec .counter ≡ counterOn (commandAt bs) (st .rec .counter)
-  unfolding stateWith recordWith recordAfter counterOn
-  next-counter = rw command-is
+  -- the level is stored as it is
+  next-level : levelOf (codeOf (ledgerWith (lentOf (st .rec)) (entryAt bs)) .level) ≡ levelAfter (moveOf here) (stands .level)
+  unfolding ledgerOf ledgerWith entered atLevel effectIn effectOf lentOf shareOf
+  next-level =
+      let l = lentOf (st .rec) in
+      let there = ledgerWith l (entryAt bs) in
+      ap (λ (g : Ledger). g .level) (ledger-back there (sound-ledger (l .card) there (ledger-kept l (entryAt bs) (parts .1)) .owing)) ∙ rw read-is
 
-  next-read : next .read ≡ 18
-  unfolding stateWith
-  next-read = read
+  next-stands : standsIn (next .rec) ≡ nextAt (st .rec .card .sleeps) stands bs
+  unfolding stateWith recordWith recordAfter shareAfter nextAt standingAfter commandIn moveIn
+  next-stands = rw (next-level, read-is)
+
+  next-sleeps : next .rec .card .sleeps ≡ st .rec .card .sleeps
+  unfolding stateWith recordWith recordAfter
+  next-sleeps = refl
+
+  next-comes : entryMayCome next ≡ true
+  unfolding stateWith recordWith recordAfter
+  next-comes = still-comes (st .rec .last .seen) (st .tag) comes
 
   next-small : Small next
   unfolding stateWith
@@ -138,19 +162,19 @@ pub record Ranged (q : Bool) (room : ℕ) (st : State) (bs : List ℕ) (most : �
   pub used : r .used ≡ 10 * count
   pub few : count ≤ most
   pub inside : 10 * count ≤ length bs
-  pub leads : Leads q room st bs (r .used) (linesIf q count (st .rec .counter) bs) (stateWith st r)
+  pub leads : Leads q room st bs (r .used) (linesIf q count (st .rec) bs) (stateWith st r)
   -- where it may take an entry and takes none, none is taken here
   pub stops : 1 ≤ most → r .used ≡ 0 → takes (r .rec) bs ≡ false
 
-nothing : (q : Bool) (n : ℕ) (bs : List ℕ) → linesIf q 0 n bs ≡ []
+nothing : (q : Bool) (rec : Record) (bs : List ℕ) → linesIf q 0 rec bs ≡ []
 unfolding linesIf linesAt
-nothing true n bs = refl
-nothing false n bs = refl
+nothing true rec bs = refl
+nothing false rec bs = refl
 
 stays : (st : State) → Small st → stateWith st (ran (st .rec) 0 0 0) ≡ st
 unfolding stateWith
 stays st s = λ i. record {
-  read = st .read;
+  tag = st .tag;
   rec = st .rec;
   commands = (wrapped-is (st .commands + 0) (let h = s .commands in omega arith) ∙ add-zero (st .commands)) i;
   refreshes = (wrapped-is (st .refreshes + 0) (let h = s .refreshes in omega arith) ∙ add-zero (st .refreshes)) i;
@@ -163,19 +187,20 @@ ranged-nowhere q room st bs most s gone = record {
   used = refl;
   few = omega arith;
   inside = omega arith;
-  leads = rw (nothing q (st .rec .counter) bs, stays st s) (leads-nowhere q room st bs);
+  leads = rw (nothing q (st .rec) bs, stays st s) (leads-nowhere q room st bs);
   stops = λ h z. gone h;
 }
 
-one-line : (q : Bool) (st : State) (bs : List ℕ) (k n m : ℕ) → lineOf st bs ≡ lineAt n bs → m ≡ counterOn (commandAt bs) n →
-    lineIf q st bs ++ linesIf q k m (drop 10 bs) ≡ linesIf q (suc k) n bs
+one-line : (q : Bool) (st : State) (bs : List ℕ) (k : ℕ) (next : Record) → lineOf st bs ≡ lineAt (st .rec .card .sleeps) (standsIn (st .rec)) bs →
+    standsIn next ≡ nextAt (st .rec .card .sleeps) (standsIn (st .rec)) bs → next .card .sleeps ≡ st .rec .card .sleeps →
+    lineIf q st bs ++ linesIf q k next (drop 10 bs) ≡ linesIf q (suc k) (st .rec) bs
 unfolding linesIf linesAt
-one-line true st bs k n m e f = refl
-one-line false st bs k n m e f = rw (e, f)
+one-line true st bs k next e f g = refl
+one-line false st bs k next e f g = rw (e, f, g)
 
-line-if-short : (q : Bool) (st : State) (bs : List ℕ) (n : ℕ) → lineOf st bs ≡ lineAt n bs → length (lineAt n bs) ≤ 24 → length (lineIf q st bs) ≤ 24
-line-if-short true st bs n e h = omega arith
-line-if-short false st bs n e h = rw e h
+line-if-short : (q : Bool) (st : State) (bs line : List ℕ) → lineOf st bs ≡ line → length line ≤ 24 → length (lineIf q st bs) ≤ 24
+line-if-short true st bs line e h = omega arith
+line-if-short false st bs line e h = rw e h
 
 has-room : (q : Bool) (room k : ℕ) → (q ≡ false → 24 * suc k ≤ room - 40) → hasRoom q room ≡ true
 has-room true room k h = refl
@@ -185,27 +210,27 @@ has-room false room k h = let l = h refl in le-leb 64 room (omega arith)
 add-up : (st : State) (rec : Record) (u m n : ℕ) (r : Ran) → stateWith (stateWith st (ran rec u m n)) r ≡ stateWith st (behind u m n r)
 unfolding stateWith
 add-up st rec u m n r = λ i. record {
-  read = st .read;
+  tag = st .tag;
   rec = r .rec;
   commands = wrapped-twice (st .commands) m (r .commands) i;
   refreshes = wrapped-twice (st .refreshes) n (r .refreshes) i;
   offset = wrapped-twice (st .offset) u (r .used) i;
 }
 
-module _ (k : ℕ) (q : Bool) (room : ℕ) (st : State) (bs : List ℕ) (read : st .read ≡ 18) (b : Bytes bs) (wide : q ≡ false → 24 * suc k ≤ room - 40)
+module _ (k : ℕ) (q : Bool) (room : ℕ) (st : State) (bs : List ℕ) (comes : entryMayCome st ≡ true) (b : Bytes bs) (wide : q ≡ false → 24 * suc k ≤ room - 40)
     (go : takes (st .rec) bs ≡ true) where
   abbrev then : State
-  then = next st bs read b go
+  then = next st bs comes b go
 
   first : Leads q room st bs 10 (lineIf q st bs) then
   first =
-      let t = took-here st bs read b go in
+      let t = took-here st bs comes b go in
       rw (ap (λ (x : Took). x .state) t) at (leads-on q room st bs 10 (has-room q room k wide) (ap (λ (x : Took). x .how) t))
 
   still-wide : q ≡ false → 24 * k ≤ room - length (lineIf q st bs) - 40
   still-wide e =
       let h = wide e in
-      let s = line-if-short q st bs (st .rec .counter) (line-here st bs read b go) (line-short st bs read b go) in
+      let s = line-if-short q st bs _ (line-here st bs comes b go) (line-short st bs comes b go) in
       omega arith
 
   ranged-on : (r : Ran) → Ranged q (room - length (lineIf q st bs)) then (drop 10 bs) k r →
@@ -214,7 +239,7 @@ module _ (k : ℕ) (q : Bool) (room : ℕ) (st : State) (bs : List ℕ) (read : 
       let u = g .used in
       let f = g .few in
       let i : 10 * g .count ≤ length bs - 10 = rw length-drop at (g .inside) in
-      let l = long st bs read b go in
+      let l = long st bs comes b go in
       record {
         count = suc (g .count);
         used = omega arith;
@@ -222,43 +247,43 @@ module _ (k : ℕ) (q : Bool) (room : ℕ) (st : State) (bs : List ℕ) (read : 
         inside = omega arith;
         leads =
             rw (
-              ← one-line q st bs (g .count) (st .rec .counter) (then .rec .counter) (line-here st bs read b go) (next-counter st bs read b go),
+              ← one-line q st bs (g .count) (then .rec) (line-here st bs comes b go) (next-stands st bs comes b go) (next-sleeps st bs comes b go),
               ← add-up st (recordWith (st .rec) (entryAt bs)) 10 (commandsBy (st .rec) (entryAt bs)) (refreshesBy (st .rec) (entryAt bs)) r,
             )
-            (leads-then q room st bs 10 (r .used) (lineIf q st bs) (linesIf q (g .count) (then .rec .counter) (drop 10 bs)) then (stateWith then r) first (g .leads));
+            (leads-then q room st bs 10 (r .used) (lineIf q st bs) (linesIf q (g .count) (then .rec) (drop 10 bs)) then (stateWith then r) first (g .leads));
         stops = λ h z. absurd (omega arith);
       }
 
-module _ (k : ℕ) (q : Bool) (room : ℕ) (st : State) (bs : List ℕ) (read : st .read ≡ 18) (b : Bytes bs) (small : Small st) (wide : q ≡ false → 24 * suc k ≤ room - 40)
-    (rest : (go : takes (st .rec) bs ≡ true) → let then = next st bs read b go in
+module _ (k : ℕ) (q : Bool) (room : ℕ) (st : State) (bs : List ℕ) (comes : entryMayCome st ≡ true) (b : Bytes bs) (small : Small st) (wide : q ≡ false → 24 * suc k ≤ room - 40)
+    (rest : (go : takes (st .rec) bs ≡ true) → let then = next st bs comes b go in
     Ranged q (room - length (lineIf q st bs)) then (drop 10 bs) k (runOf k (then .rec) (drop 10 bs))) where
   ranged-by : (x : Bool) → takes (st .rec) bs ≡ x →
       Ranged q room st bs (suc k)
       (let e = entryAt bs in
       cond x (behind 10 (commandsBy (st .rec) e) (refreshesBy (st .rec) e) (runOf k (recordWith (st .rec) e) (drop 10 bs))) (ran (st .rec) 0 0 0))
   ranged-by false go = ranged-nowhere q room st bs (suc k) small (λ h. go)
-  ranged-by true go = ranged-on k q room st bs read b wide go (runOf k (recordWith (st .rec) (entryAt bs)) (drop 10 bs)) (unfold stateWith in rest go)
+  ranged-by true go = ranged-on k q room st bs comes b wide go (runOf k (recordWith (st .rec) (entryAt bs)) (drop 10 bs)) (unfold stateWith in rest go)
 
-pub ranged : (k : ℕ) (q : Bool) (room : ℕ) (st : State) (bs : List ℕ) → st .read ≡ 18 → Bytes bs → Small st → (q ≡ false → 24 * k ≤ room - 40) →
+pub ranged : (k : ℕ) (q : Bool) (room : ℕ) (st : State) (bs : List ℕ) → entryMayCome st ≡ true → Bytes bs → Small st → (q ≡ false → 24 * k ≤ room - 40) →
     Ranged q room st bs k (runOf k (st .rec) bs)
 unfolding runOf
-ranged zero q room st bs read b small wide = ranged-nowhere q room st bs 0 small (λ h. absurd (omega arith))
-ranged (suc k) q room st bs read b small wide =
-    ranged-by k q room st bs read b small wide
+ranged zero q room st bs comes b small wide = ranged-nowhere q room st bs 0 small (λ h. absurd (omega arith))
+ranged (suc k) q room st bs comes b small wide =
+    ranged-by k q room st bs comes b small wide
     (λ go.
-    ranged k q (room - length (lineIf q st bs)) (next st bs read b go) (drop 10 bs) (next-read st bs read b go) (bytes-drop 10 bs b) (next-small st bs read b go)
-    (still-wide k q room st bs read b wide go))
+    ranged k q (room - length (lineIf q st bs)) (next st bs comes b go) (drop 10 bs) (next-comes st bs comes b go) (bytes-drop 10 bs b) (next-small st bs comes b go)
+    (still-wide k q room st bs comes b wide go))
     (takes (st .rec) bs) refl
 
 -- ---- as the code has it
 module _ (q : Bool) (st : State) (bs old : List ℕ) where
-  pub leapt-nowhere : (st .read ≡ 18 → ⊥) → Leapt q st bs old old (record { used = 0; wrote = 0; state = st })
+  pub leapt-nowhere : entryMayCome st ≡ false → Leapt q st bs old old (record { used = 0; wrote = 0; state = st })
   leapt-nowhere n = record {
     lines = [];
     leads = leads-nowhere q (length old) st bs;
     put = lined-nothing old;
     inside = omega arith;
-    nowhere = λ z. (refl, λ r. absurd (n r));
+    nowhere = λ z. (refl, λ r. absurd (let y : _≡_ {A = ℕ} 0 1 = cc in omega arith));
   }
 
   module _ {most : ℕ} {r : Ran} (g : Ranged q (length old) st bs most r) where
@@ -269,17 +294,17 @@ module _ (q : Bool) (st : State) (bs old : List ℕ) where
         let i = g .inside in
         (omega arith, λ e. let w = h e in omega arith)
 
-    no-lines : (count : ℕ) → count ≡ 0 → length (linesIf q count (st .rec .counter) bs) ≡ 0
-    no-lines count e = rw (e, nothing q (st .rec .counter) bs)
+    no-lines : (count : ℕ) → count ≡ 0 → length (linesIf q count (st .rec) bs) ≡ 0
+    no-lines count e = rw (e, nothing q (st .rec) bs)
 
-    pub leapt : (new : List ℕ) (wrote : ℕ) → 1 ≤ most → Lined (linesIf q (r .used / 10) (st .rec .counter) bs) old new wrote →
+    pub leapt : (new : List ℕ) (wrote : ℕ) → 1 ≤ most → Lined (linesIf q (r .used / 10) (st .rec) bs) old new wrote →
         Leapt q st bs old new (record { used = r .used; wrote = wrote; state = stateWith st r })
     leapt new wrote more l =
         let u = g .used in
         let i = g .inside in
         let e : r .used / 10 ≡ g .count = omega arith in
         record {
-          lines = linesIf q (g .count) (st .rec .counter) bs;
+          lines = linesIf q (g .count) (st .rec) bs;
           leads = g .leads;
           put = rw e at l;
           inside = omega arith;

@@ -4,8 +4,8 @@ use mathlib.Core.Bool.{Bool, true, false, cond}
 use mathlib.Core.List.{[], _∷_}
 use native.Mathlib.Omega.{arith}
 use lib.ListN.{length, length-append}
-use Rattle.rules.specs.Commands.{Kind, NOP, MRW, MRR, REFPB, REFAB, ACT, RD, WR, PRE, PREA, RESERVED, kindOf, apOf}
-use Rattle.rules.specs.Past.{Taken, bankAt}
+use Rattle.rules.specs.Commands.{Kind, NOP, MRW, MRR, REFPB, REFAB, ACT, RD, WR, PRE, PREA, RESERVED, Command, kindOf, apOf}
+use Rattle.rules.specs.Past.{bankAt}
 use Rattle.rules.specs.Lines.{decimal, nameOf, showsBank, entryLine}
 use Rattle.lines.proofs.Decimals.{short}
 
@@ -29,13 +29,13 @@ bank-short : (b : Bool) (x : ℕ) → x ≤ 7 → length (cond b (decimal x) (45
 bank-short true x h = short 0 x (omega arith)
 bank-short false x h = omega arith
 
-pub entry-short : (e : Taken) (n : ℕ) → e .stamp < 2 ^ 32 → bankAt (e .cmd) n ≤ 7 → length (entryLine e n) ≤ 24
+pub entry-short : (t : ℕ) (c : Command) (n : ℕ) → t < 2 ^ 32 → bankAt c n ≤ 7 → length (entryLine t c n) ≤ 24
 unfolding entryLine
-entry-short e n h b =
+entry-short t c n h b =
     simp length-append
     (omega (
       arith,
-      short 9 (e .stamp) (omega arith),
-      name-short (kindOf (e .cmd)) (apOf (e .cmd)),
-      bank-short (showsBank (kindOf (e .cmd))) (bankAt (e .cmd) n) b,
+      short 9 t (omega arith),
+      name-short (kindOf c) (apOf c),
+      bank-short (showsBank (kindOf c)) (bankAt c n) b,
     ))

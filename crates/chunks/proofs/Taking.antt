@@ -8,7 +8,7 @@ use native.Mathlib.Omega.{arith}
 use lib.Dec.{eqb}
 use lib.ListN.{length, getD, take, drop, length-drop}
 use lib.Seq.{take-all, length-take-le, getD-take}
-use borrow.Author.Tests.{eq-eqb, ne-eqb, le-leb, lt-leb}
+use borrow.Author.Tests.{eq-eqb, ne-eqb, le-leb}
 use Rattle.rules.specs.Checks.{Refusal, refusal, unless}
 use Rattle.rules.specs.Form as form
 use Rattle.rules.specs.Lent as lent
@@ -23,7 +23,7 @@ use Rattle.ledger.specs.Values as paid
 use Rattle.ledger.specs.Values.{isNone}
 use Rattle.ledger.proofs.Promises.{code-is}
 use Rattle.bank.specs.declared.Record.{Record}
-use Rattle.bank.specs.Values.{lentOf, freshOf}
+use Rattle.bank.specs.Values.{shareOf, lentOf, freshOf}
 use Rattle.step.specs.Runs.{entryAt}
 use Rattle.step.proofs.Onward.{rest-of}
 use Rattle.chunks.specs.declared.State.{State}
@@ -47,7 +47,8 @@ use Rattle.chunks.specs.Took.{
   fieldTook,
   behindTook,
   headTook,
-  asRead,
+  newest,
+  headAt,
   tookOf,
 }
 use Rattle.chunks.specs.Parts.{fieldIn, headAs, toldOf, NotTaken, endOn}
@@ -67,7 +68,7 @@ module _ (st : State) (bs : List ℕ) (v : Read) (r : ReadAs (st .rec .card) (ge
       rw (o, cardTook)
 
   pub card-taken : 3 ≤ length bs → v .refusal ≡ 0
-      → tookAs (On (length bs)) (record { read = st .read + 1; rec = freshOf (v .card); commands = st .commands; refreshes = st .refreshes; offset = wrapped (st .offset + length bs) }) ≡ cardTook st (fieldIn bs)
+      → tookAs (On (length bs)) (record { tag = getD bs 0 0; rec = freshOf (v .card); commands = st .commands; refreshes = st .refreshes; offset = wrapped (st .offset + length bs) }) ≡ cardTook st (fieldIn bs)
   unfolding cardTook cardAfter fieldIn reading.refusalOf reading.unlessRefused unless
   card-taken h z =
       let o : reading.readRefusal (st .rec .card) (getD bs 0 0) (drop 3 bs) ≡ none = sym (read-all .told) ∙ rw (eq-eqb _ _ z) in
@@ -110,7 +111,7 @@ unfolding form.endOf fieldIn stampIn
 end-in bs h = rw (length-drop, le-leb 4 (length bs - 3) (omega arith), take-all 4 (drop 3 bs) (rw length-drop (omega arith)))
 
 abbrev Closed : Record → (end : ℕ) → After → Type 0
-Closed rec end r = let l = lentOf rec in paid.Left (lent.closeRefusal l end) (l .ledger) (lent.moved (l .card) (l .ledger) end) r
+Closed rec end r = let l = lentOf rec in paid.Left (lent.closeRefusal l end) (l .share .ledger) (lent.movedOn (l .card) (l .share .ledger) end) r
 
 pub end-left : (rec : Record) (bs : List ℕ) (t : ℕ) (r : After) → length bs ≡ 7 → t ≡ stampIn (drop 3 bs) → Closed rec t r → Closed rec (form.endOf (fieldIn bs)) r
 end-left rec bs t r n te l = rw (end-in bs n, ← te) l
@@ -122,10 +123,10 @@ module _ (st : State) (f : form.Field) (r : After) (l : Closed (st .rec) (form.e
   end-refused x e n = rw (told-bad _ x (e ∙ l .told) n, endTook)
 
   pub end-taken : (x : Told) → toldOf x ≡ paid.refusalOf (r .answer) → x .0 ≡ 0 → form.sizeOf f ≡ 7 → tookAs (On 7) (endOn st (r .ledger)) ≡ endTook st f
-  unfolding endTook endAfter endOn paid.unlessRefused lentOf
+  unfolding endTook endAfter endOn paid.unlessRefused lentOf shareOf
   end-taken x e z n =
       let o = told-good _ x (e ∙ l .told) z in
-      let h : r .ledger ≡ paid.codeOf (lent.moved (cardOf (st .rec .card)) (paid.ledgerOf (st .rec .ledger)) (form.endOf f)) =
+      let h : r .ledger ≡ paid.codeOf (lent.movedOn (cardOf (st .rec .card)) (paid.ledgerOf (st .rec .share .ledger)) (form.endOf f)) =
       sym (code-is (r .ledger)) ∙ ap paid.codeOf (rw o at (l .ledger)) in
       rw (o, endTook, n, h)
 
@@ -154,17 +155,17 @@ head-took st form.cut = refl
 head-took st form.badTag = refl
 head-took st form.badLength = refl
 
-module _ (st : State) (bs : List ℕ) (in-time : st .read ≤ 18) where
-  pub took-as : (h x : Head) → h ≡ headAs (form.headOf (asRead (st .read)) bs) → h ≡ x → tookOf st bs ≡ unlessWhole st x (tookOf st bs)
+module _ (st : State) (bs : List ℕ) (in-time : st .tag ≡ 33 → ⊥) where
+  pub took-as : (h x : Head) → h ≡ headAs (headAt st bs) → h ≡ x → tookOf st bs ≡ unlessWhole st x (tookOf st bs)
   unfolding tookOf
-  took-as h x e f = rw (← f, e, lt-leb 19 (st .read) (omega arith)) (head-took st (form.headOf (asRead (st .read)) bs))
+  took-as h x e f = rw (← f, e, ne-eqb (st .tag) 33 in-time) (head-took st (headAt st bs))
 
-  pub whole-took : (n : ℕ) → Fronted (asRead (st .read)) bs n → fieldTook st (fieldIn (take n bs)) ≡ tookOf st bs
-  unfolding tookOf headTook
-  whole-took n f = rw (lt-leb 19 (st .read) (omega arith), f .is)
+  pub whole-took : (n : ℕ) → Fronted (st .rec .last .seen) (newest (st .tag)) bs n → fieldTook st (fieldIn (take n bs)) ≡ tookOf st bs
+  unfolding tookOf headAt headTook
+  whole-took n f = rw (ne-eqb (st .tag) 33 in-time, f .is)
 
-pub whole-asks : (fs : List form.Field) (bs : List ℕ) (n : ℕ) → Fronted fs bs n
+pub whole-asks : (b : Bool) (fs : List form.Field) (bs : List ℕ) (n : ℕ) → Fronted b fs bs n
     → (3 ≤ length (take n bs)) × (form.lengthGood (getD (take n bs) 0 0) (length (take n bs) - 3) ≡ true)
-whole-asks fs bs n f =
+whole-asks b fs bs n f =
     let l = f .least in
     rw (length-take-le n bs (f .long), getD-take n bs 0 0 (omega arith)) (l, f .size)

@@ -5,7 +5,7 @@ use mathlib.Core.Bool.{Bool, true, cond, _||_}
 use mathlib.Core.List.{List, [], _++_}
 use lib.Dec.{leb, eqb}
 use lib.ListN.{length, drop}
-use Rattle.rules.specs.Form.{Field, Head, whole, cut, badTag, badLength, headOf, entryOf}
+use Rattle.rules.specs.Form.{Field, Head, whole, cut, badTag, badLength, entryOf}
 use Rattle.rules.specs.Lent.{commandIn}
 use Rattle.rules.specs.Lines.{entryLine}
 use Rattle.card.specs.Reading.{blankCard}
@@ -17,17 +17,17 @@ use Rattle.chunks.specs.declared.What.the-variants.{More, Full, Over}
 use Rattle.chunks.specs.declared.Verdict.{Verdict}
 use Rattle.chunks.specs.declared.Verdict.the-variants.{Accepted, Refused}
 use Rattle.chunks.specs.declared.fields.Move.the-variants.{On, Wait, End}
-use Rattle.chunks.specs.Took.{asRead, tookOf}
+use Rattle.chunks.specs.Took.{headAt, tookOf}
 
 -- before the first byte
 unfoldable pub startOf : State
-startOf = record { read = 0; rec = freshOf blankCard; commands = 0; refreshes = 0; offset = 0 }
+startOf = record { tag = 0; rec = freshOf blankCard; commands = 0; refreshes = 0; offset = 0 }
 
 -- ---- lines
 -- the line of an entry; no other field has one
 unfoldable pub fieldLine : State → Field → List ℕ
 fieldLine st f =
-    cond (eqb (f .tag) 32) (entryLine (record { stamp = entryOf f .stamp; cmd = commandIn (lentOf (st .rec)) (entryOf f) }) (st .rec .counter)) []
+    cond (eqb (f .tag) 32) (entryLine (entryOf f .stamp) (commandIn (lentOf (st .rec)) (entryOf f)) (st .rec .share .counter)) []
 
 unfoldable pub headLine : State → Head → List ℕ
 headLine st cut = []
@@ -36,7 +36,7 @@ headLine st badLength = []
 headLine st (whole f rest) = fieldLine st f
 
 unfoldable pub lineOf : State → List ℕ → List ℕ
-lineOf st bs = headLine st (headOf (asRead (st .read)) bs)
+lineOf st bs = headLine st (headAt st bs)
 
 -- ---- a run of bytes
 pub record Heard : Type 0 where
@@ -79,7 +79,7 @@ pub record FedAs (h : Heard) (old new : List ℕ) (r : Fed) : Type 0 where
 
 -- ---- where no more bytes come
 unfoldable pub endedAt : State → Verdict
-endedAt st = cond (leb 19 (st .read)) (Accepted (st .commands) (st .refreshes) (st .rec .ledger .owed)) (Refused 1 0 (st .offset) 0)
+endedAt st = cond (eqb (st .tag) 33) (Accepted (st .commands) (st .refreshes) (st .rec .share .ledger .owed)) (Refused 1 0 (st .offset) 0)
 
 unfoldable pub overAt : State → What → Verdict
 overAt st More = endedAt st

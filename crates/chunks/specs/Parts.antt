@@ -8,9 +8,10 @@ use lib.Dec.{eqb}
 use lib.ListN.{length, getD, drop}
 use Rattle.rules.specs.Form as form
 use Rattle.rules.specs.Checks.{Refusal, refusal}
+use Rattle.pins.specs.Values.{levelOf}
 use Rattle.pins.specs.Fronts.{frontOf}
 use Rattle.lines.specs.Written.{Lined}
-use Rattle.lines.specs.Runs.{linesAt}
+use Rattle.lines.specs.Runs.{Standing, standing, linesAt}
 use Rattle.ledger.specs.declared.Ledger.{Ledger}
 use Rattle.bank.specs.declared.Record.{Record}
 use Rattle.step.specs.declared.Ran.{Ran}
@@ -47,7 +48,7 @@ pub record NotTaken (rec : Record) (bs : List ℕ) : Type 0 where
 -- the state behind the end, with the ledger then
 unfoldable pub endOn : State → Ledger → State
 endOn st g = record {
-  read = 19;
+  tag = 33;
   rec = recordClosed (st .rec) g;
   commands = st .commands;
   refreshes = st .refreshes;
@@ -59,22 +60,29 @@ endOn st g = record {
 abbrev pub Leads : (quiet : Bool) → (room : ℕ) → State → List ℕ → (n : ℕ) → (lines : List ℕ) → State → Type 0
 Leads q room st bs n lines next = heardOf q room st bs ≡ behind n lines (heardOf q (room - length lines) next (drop n bs))
 
-unfoldable pub linesIf : (quiet : Bool) → (count counter : ℕ) → List ℕ → List ℕ
-linesIf q k n bs = cond q [] (linesAt k n bs)
+-- what the lines go by of a record that takes these entries
+abbrev pub standsIn : Record → Standing
+standsIn rec = standing (levelOf (rec .share .ledger .level)) (rec .share .counter)
+
+unfoldable pub linesIf : (quiet : Bool) → (count : ℕ) → Record → List ℕ → List ℕ
+linesIf q k rec bs = cond q [] (linesAt (rec .card .sleeps) k (standsIn rec) bs)
 
 -- the state behind a run
 unfoldable pub stateWith : State → Ran → State
 stateWith st r = record {
-  read = st .read;
+  tag = st .tag;
   rec = r .rec;
   commands = wrapped (st .commands + r .commands);
   refreshes = wrapped (st .refreshes + r .refreshes);
   offset = wrapped (st .offset + r .used);
 }
 
+abbrev pub entryMayCome : State → Bool
+entryMayCome st = form.mayFollow (st .rec .last .seen) (st .tag) 32
+
 -- no entry that is taken stands here
 abbrev pub NoneHere : State → List ℕ → Type 0
-NoneHere st bs = st .read ≡ 18 → takes (st .rec) bs ≡ false
+NoneHere st bs = entryMayCome st ≡ true → takes (st .rec) bs ≡ false
 
 -- so many bytes further on, with their lines written
 pub record Leapt (q : Bool) (st : State) (bs old new : List ℕ) (r : Ahead) : Type 0 where

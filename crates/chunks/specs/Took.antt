@@ -1,17 +1,18 @@
 -- What one field makes of a state. The tests of a field are those of the rules (`Form.headOf`), those of its value the card's (`readRefusal`), the checks of an
 -- entry and of an end those of a lent record (`stepRefusal`, `closeRefusal`).
-use Prim.Native.Nat.{ℕ, zero, suc, _+_, _%_, _^_}
+use Prim.Native.Nat.{ℕ, _+_, _%_, _^_}
 use mathlib.Core.Bool.{cond}
 use mathlib.Core.List.{List, [], _∷_}
 use mathlib.Core.Option.{Option, none, some}
-use lib.Dec.{leb, eqb}
+use lib.Dec.{eqb}
 use Rattle.rules.specs.Checks.{Refusal}
 use Rattle.rules.specs.Form.{Field, sizeOf, number, timingOf, Head, whole, cut, badTag, badLength, headOf, entryOf, endOf}
-use Rattle.rules.specs.Lent.{stepRefusal, closeRefusal, moved}
+use Rattle.rules.specs.Lent.{stepRefusal, closeRefusal, movedOn}
 use Rattle.card.specs.Values.{cardOf}
 use Rattle.card.specs.Reading.{put, readRefusal}
 use Rattle.ledger.specs.declared.Ledger.{Ledger}
 use Rattle.ledger.specs.Values.{ledgerOf, codeOf}
+use Rattle.bank.specs.declared.Share.{Share}
 use Rattle.bank.specs.declared.Record.{Record}
 use Rattle.bank.specs.Values.{lentOf, freshOf}
 use Rattle.step.specs.Values.{recordWith}
@@ -39,7 +40,7 @@ refusedBy k st = tookAs (End (Refused k 0 (st .offset) 0)) st
 -- ---- a card's field
 unfoldable pub cardAfter : State → Field → State
 cardAfter st f = record {
-  read = st .read + 1;
+  tag = f .tag;
   rec = freshOf (put (st .rec .card) (f .tag) (number (f .value)) (timingOf (f .value)));
   commands = st .commands;
   refreshes = st .refreshes;
@@ -52,7 +53,7 @@ cardTook st f = elim (readRefusal (st .rec .card) (f .tag) (f .value)) [ none �
 -- ---- an entry
 unfoldable pub entryAfter : State → Field → State
 entryAfter st f = record {
-  read = st .read;
+  tag = st .tag;
   rec = recordWith (st .rec) (entryOf f);
   commands = wrapped (st .commands + commandsBy (st .rec) (entryOf f));
   refreshes = wrapped (st .refreshes + refreshesBy (st .rec) (entryOf f));
@@ -66,23 +67,25 @@ unfoldable pub entryTook : State → Field → Took
 entryTook st f = elim (entryRefused st f) [ none ↦ tookAs (On (sizeOf f)) (entryAfter st f) | some x ↦ refusedHere st x ]
 
 -- ---- the end: the record's ledger then stands at E
-unfoldable pub recordClosed : Record → Ledger → Record
-recordClosed rec g = record {
-  card = rec .card;
-  mr2 = rec .mr2;
-  counter = rec .counter;
-  last = rec .last;
-  latest = rec .latest;
-  bus = rec .bus;
-  four = rec .four;
-  banks = rec .banks;
+unfoldable pub shareClosed : Share → Ledger → Share
+shareClosed s g = record {
+  mr2 = s .mr2;
+  counter = s .counter;
+  latest = s .latest;
+  moves = s .moves;
+  bus = s .bus;
+  four = s .four;
+  banks = s .banks;
   ledger = g;
 }
 
+unfoldable pub recordClosed : Record → Ledger → Record
+recordClosed rec g = record { card = rec .card; last = rec .last; share = shareClosed (rec .share) g }
+
 unfoldable pub endAfter : State → Field → State
 endAfter st f = record {
-  read = 19;
-  rec = recordClosed (st .rec) (codeOf (moved (cardOf (st .rec .card)) (ledgerOf (st .rec .ledger)) (endOf f)));
+  tag = 33;
+  rec = recordClosed (st .rec) (codeOf (movedOn (cardOf (st .rec .card)) (ledgerOf (st .rec .share .ledger)) (endOf f)));
   commands = st .commands;
   refreshes = st .refreshes;
   offset = wrapped (st .offset + sizeOf f);
@@ -106,10 +109,12 @@ unfoldable pub behindTook : State → List ℕ → Took
 behindTook st [] = tookAs Wait st
 behindTook st (b ∷ bs) = refusedBy 12 st
 
--- so many fields of the card, for the tests of a tag: nothing else of them is looked at
-unfoldable pub asRead : ℕ → List Field
-asRead zero = []
-asRead (suc n) = record { tag = suc n; high = 0; low = 0; value = [] } ∷ asRead n
+-- a field of the card with this tag, for the tests of the next one: they look at nothing else. With tag 0 it stands for none
+unfoldable pub newest : ℕ → List Field
+newest t = record { tag = t; high = 0; low = 0; value = [] } ∷ []
+
+unfoldable pub headAt : State → List ℕ → Head
+headAt st bs = headOf (st .rec .last .seen) (newest (st .tag)) bs
 
 unfoldable pub tookOf : State → List ℕ → Took
-tookOf st bs = cond (leb 19 (st .read)) (behindTook st bs) (headTook st (headOf (asRead (st .read)) bs))
+tookOf st bs = cond (eqb (st .tag) 33) (behindTook st bs) (headTook st (headAt st bs))

@@ -16,7 +16,7 @@ pub fn start() -> State
     ensures { λ r. ⌜ r ≡ startOf ⌝ }
 {
     State {
-        read: 0,
+        tag: 0,
         rec: bank::fresh_record(card::blank()),
         commands: 0,
         refreshes: 0,
@@ -75,11 +75,11 @@ pub fn feed(state: State, bytes: &[u8], out: &mut [u8], quiet: bool) -> Fed
 fn ended(state: State) -> Verdict
     ensures { λ r. ⌜ r ≡ endedAt state ⌝ }
 {
-    if 19 <= state.read {
+    if state.tag == 33 {
         return Verdict::Accepted {
             commands: state.commands,
             refreshes: state.refreshes,
-            owed: state.rec.ledger.owed,
+            owed: state.rec.share.ledger.owed,
         };
     }
     Verdict::Refused {

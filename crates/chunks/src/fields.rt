@@ -47,7 +47,7 @@ fn refused(state: State, number: u8, rule: u8, cycle: u64) -> Took
 }
 
 fn take_card(state: State, bytes: &[u8]) -> Took
-    requires { ⌜ (state .read ≤ 18) × (3 ≤ length (now bytes)) ⌝ }
+    requires { ⌜ 3 ≤ length (now bytes) ⌝ }
     ensures { λ r. ⌜ r ≡ took.cardTook state (fieldIn (now (bytes .entry))) ⌝ }
 {
     let rec = state.rec;
@@ -61,7 +61,7 @@ fn take_card(state: State, bytes: &[u8]) -> Took
     Took {
         how: Move::On(size),
         state: State {
-            read: state.read + 1,
+            tag: tag,
             rec: bank::fresh_record(value.card),
             commands: state.commands,
             refreshes: state.refreshes,
@@ -87,9 +87,11 @@ fn end_on(state: State, ledger: Ledger) -> State
     ensures { λ r. ⌜ r ≡ endOn state ledger ⌝ }
 {
     let mut rec = state.rec;
-    rec.ledger = ledger;
+    let mut share = rec.share;
+    share.ledger = ledger;
+    rec.share = share;
     State {
-        read: 19,
+        tag: 33,
         rec: rec,
         commands: state.commands,
         refreshes: state.refreshes,
@@ -116,8 +118,7 @@ fn take_end(state: State, bytes: &[u8]) -> Took
 
 // A field that is whole, and no entry that is taken.
 fn take_whole(state: State, bytes: &[u8]) -> Took
-    requires { ⌜ (state .read ≤ 18) × (3 ≤ length (now bytes)) ⌝ }
-    requires { ⌜ form.lengthGood (getD (now bytes) 0 0) (length (now bytes) - 3) ≡ true ⌝ }
+    requires { ⌜ (3 ≤ length (now bytes)) × (form.lengthGood (getD (now bytes) 0 0) (length (now bytes) - 3) ≡ true) ⌝ }
     requires { ⌜ (getD (now bytes) 0 0 ≡ 32 → NotTaken (state .rec) (now bytes)) ⌝ }
     ensures { λ r. ⌜ r ≡ took.fieldTook state (fieldIn (now (bytes .entry))) ⌝ }
 {
@@ -149,11 +150,11 @@ pub fn take_field(state: State, bytes: &[u8]) -> Took
     requires { ⌜ NoneHere state (now bytes) ⌝ }
     ensures { λ r. ⌜ r ≡ took.tookOf state (now (bytes .entry)) ⌝ }
 {
-    let read = state.read;
-    if 18 < read {
+    let last = state.tag;
+    if last == 33 {
         return take_behind(state, bytes);
     }
-    match heads::head_of(read, bytes) {
+    match heads::head_of(state.rec.last.seen, last, bytes) {
         Head::Whole(n) => take_whole(state, &bytes[..n]),
         Head::Cut => Took {
             how: Move::Wait,

@@ -3,7 +3,7 @@ ghost use mathlib.Core.Path.{_≡_};
 ghost use Prim.Native.Nat.{_+_, _*_, _≤_, _<_};
 ghost use lib.ListN.{length, getD};
 ghost use Rattle.rules.specs.Form as form;
-ghost use Rattle.chunks.specs.Took.{asRead};
+ghost use Rattle.chunks.specs.Took.{newest};
 ghost use Rattle.chunks.specs.Parts.{headAs};
 
 // A whole field of so many bytes, one whose rest is not there yet, or a refusal.
@@ -12,16 +12,6 @@ pub enum Head {
     Cut,
     BadTag,
     BadLength,
-}
-
-fn may_come(read: u8, tag: u8) -> bool
-    requires { ⌜ read ≤ 18 ⌝ }
-    ensures { λ r. ⌜ r ≡ form.mayCome (asRead read) tag ⌝ }
-{
-    if read == 18 {
-        return (tag == 32) | (tag == 33);
-    }
-    tag == read + 1
 }
 
 fn wide(x: u8) -> usize
@@ -38,15 +28,15 @@ fn size_in(bytes: &[u8]) -> usize
     256 * wide(bytes[1]) + wide(bytes[2])
 }
 
-pub fn head_of(read: u8, bytes: &[u8]) -> Head
-    requires { ⌜ read ≤ 18 ⌝ }
-    ensures { λ r. ⌜ r ≡ headAs (form.headOf (asRead read) (now (bytes .entry))) ⌝ }
+// Behind this tag of the card; `begun`: an entry has come.
+pub fn head_of(begun: bool, last: u8, bytes: &[u8]) -> Head
+    ensures { λ r. ⌜ r ≡ headAs (form.headOf begun (newest last) (now (bytes .entry))) ⌝ }
 {
     if bytes.len() == 0 {
         return Head::Cut;
     }
     let tag = bytes[0];
-    if !may_come(read, tag) {
+    if !card::may_come(begun, last, tag) {
         return Head::BadTag;
     }
     if bytes.len() < 3 {

@@ -7,6 +7,7 @@ ghost use lib.ListN.{length};
 ghost use Rattle.lines.specs.Written.{Lined};
 ghost use Rattle.chunks.specs.Parts.{linesIf, stateWith, Leapt};
 use crate::State;
+use bank::Record;
 use step::Ran;
 
 // How many bytes were taken, how many bytes of lines were written, and the state then.
@@ -21,7 +22,7 @@ fn state_with(state: State, ran: Ran) -> State
 {
     let rec = ran.rec;
     State {
-        read: state.read,
+        tag: state.tag,
         rec: rec,
         commands: std::num::wrapping_add_u64(state.commands, ran.commands),
         refreshes: std::num::wrapping_add_u64(state.refreshes, ran.refreshes),
@@ -40,23 +41,26 @@ fn most(quiet: bool, room: usize) -> usize
     (room - 40) / 24
 }
 
-// The lines of so many entries, one behind the other, from a round counter on. None are written where the caller is quiet.
-fn put_lines(counter: u8, bytes: &[u8], count: usize, out: &mut [u8], quiet: bool) -> usize
+// The lines of so many entries, one behind the other, from a record on. None are written where the caller is quiet.
+fn put_lines(rec: Record, bytes: &[u8], count: usize, out: &mut [u8], quiet: bool) -> usize
     requires { ⌜ (10 * count ≤ length (now bytes)) × (quiet ≡ false → 24 * count ≤ length (now out) - 40) ⌝ }
-    ensures { λ r. ⌜ Lined (linesIf quiet count counter (now (bytes .entry))) (now (out .entry)) (now (out .exit)) r ⌝ }
+    ensures { λ r. ⌜ Lined (linesIf quiet count rec (now (bytes .entry))) (now (out .entry)) (now (out .exit)) r ⌝ }
 {
     if quiet {
         return 0;
     }
-    lines::entry_lines(out, bytes, count, counter)
+    let share = rec.share;
+    let ledger = share.ledger;
+    let level = ledger.level;
+    lines::entry_lines(out, bytes, count, rec.card.sleeps, level, share.counter)
 }
 
-// None where the card is not whole yet, or behind the end field.
+// None where no entry may come: before the card is whole, and behind the end field.
 pub fn leap(state: State, bytes: &[u8], out: &mut [u8], quiet: bool) -> Ahead
     requires { ⌜ (quiet || leb 64 (length (now out))) ≡ true ⌝ }
     ensures { λ r. ⌜ Leapt quiet state (now (bytes .entry)) (now (out .entry)) (now (out .exit)) r ⌝ }
 {
-    if state.read != 18 {
+    if (state.tag == 33) | !card::may_come(state.rec.last.seen, state.tag, 32) {
         return Ahead {
             used: 0,
             wrote: 0,
@@ -64,7 +68,7 @@ pub fn leap(state: State, bytes: &[u8], out: &mut [u8], quiet: bool) -> Ahead
         };
     }
     let ran = step::run(state.rec, bytes, most(quiet, out.len()));
-    let wrote = put_lines(state.rec.counter, bytes, ran.used / 10, out, quiet);
+    let wrote = put_lines(state.rec, bytes, ran.used / 10, out, quiet);
     Ahead {
         used: ran.used,
         wrote: wrote,

@@ -27,9 +27,9 @@ pub enum Verdict {
     },
 }
 
-// What was read of a file. `read` is how many fields of the card, 19 behind the end field; the record's card is the card so far.
+// What was read of a file. `tag` is the tag of the card's newest field, 0 before the first, and 33 behind the end field; the record's card is the card so far.
 pub struct State {
-    read: u8,
+    tag: u8,
     rec: Record,
     commands: u64,
     refreshes: u64,

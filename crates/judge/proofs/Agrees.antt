@@ -7,7 +7,6 @@ use mathlib.Core.List.{List, [], _∷_, _++_, append-assoc, append-nil}
 use native.Mathlib.Omega.{arith}
 use lib.Dec.{leb}
 use lib.ListN.{length, drop, length-drop}
-use borrow.Author.Tests.{lt-leb}
 use Rattle.rules.specs.Past.{Past}
 use Rattle.rules.specs.Form.{Field}
 use Rattle.rules.specs.File.{FileVerdict, refused, Step, goesOn, ends, closing, stepOf, Judged, fileFrom}
@@ -21,7 +20,7 @@ use Rattle.chunks.specs.Took.{refusedBy, behindTook, tookOf}
 use Rattle.chunks.specs.Heard.{Heard, behind, heardFrom, endedAt, overAt}
 use Rattle.chunks.proofs.Bytes.{Bytes, bytes-drop}
 use Rattle.chunks.proofs.Turns.{lineIf, heard-full, heard-on, heard-waits, heard-ends, what-behind}
-use Rattle.judge.proofs.Stands.{Stands, read-small}
+use Rattle.judge.proofs.Stands.{Stands, not-ended}
 use Rattle.judge.proofs.StandsEnd.{Ended}
 use Rattle.judge.proofs.Moves.{Moves, waits, stopped, goes, closes, moves}
 
@@ -44,7 +43,7 @@ pub record Closed (v : FileVerdict) (at : ℕ) (bs : List ℕ) (h : Heard) : Typ
 module _ {st : State} {v : FileVerdict} {at : ℕ} (x : Ended st v at) where
   pub behind-took : (bs : List ℕ) → tookOf st bs ≡ behindTook st bs
   unfolding tookOf
-  behind-took bs = rw (x .read)
+  behind-took bs = rw (x .tag)
 
   closed : (k : ℕ) (q : Bool) (room : ℕ) (bs : List ℕ) → length bs < k → (heardFrom k q room st bs .what ≡ Full → ⊥) → Closed v at bs (heardFrom k q room st bs)
   unfolding closing overAt behindTook refusedBy verdictOf
@@ -64,7 +63,7 @@ pub record Agree (q : Bool) (past : Past) (h : Heard) (j : Judged) : Type 0 wher
 
 ended-short : {st : State} {fs : List Field} {past : Past} {at : ℕ} → Stands st fs past at → verdictOf (endedAt st) ≡ refused 1 0 at 0
 unfolding endedAt verdictOf
-ended-short {st} s = rw (lt-leb 19 (st .read) (omega (arith, read-small s)), s .offset)
+ended-short s = rw (not-ended s, s .offset)
 
 agree-behind : {q : Bool} {past past′ : Past} {h : Heard} {j : Judged} (n : ℕ) (line : List ℕ) → Agree q past′ h j →
     (q ≡ false → entryLines past′ ≡ entryLines past ++ line) → Agree q past (behind n line h) j

@@ -9,7 +9,7 @@ use borrow.Author.Tests.{ne-eqb}
 use Rattle.rules.specs.Past.{Past}
 use Rattle.rules.specs.Checks.{refusal}
 use Rattle.rules.specs.Form.{Field, bytesOf, sizeOf, whole, cardOf, entryOf, endOf}
-use Rattle.rules.specs.File.{FileVerdict, refused, Step, goesOn, ends, closing, acceptedAt, stepOf}
+use Rattle.rules.specs.File.{FileVerdict, refused, Step, goesOn, ends, closing, acceptedAt, begun, stepOf}
 use Rattle.rules.specs.FileReading.{RightForm, one, two, three, four, entry, end, twelve, good}
 use Rattle.rules.specs.Lines.{entryLines}
 use Rattle.rules.proofs.Exactly.{entry-decides, end-decides}
@@ -25,7 +25,7 @@ use Rattle.chunks.specs.Took.{tookAs, refusedHere, refusedBy, headTook, tookOf,
 use Rattle.chunks.specs.Heard.{fieldLine, headLine, lineOf}
 use Rattle.chunks.proofs.Bytes.{Bytes, bytes-part}
 use Rattle.judge.proofs.Stands.{Stands, took-by, line-by}
-use Rattle.judge.proofs.StandsCard.{tag-small, card-refused, card-taken, card-stands}
+use Rattle.judge.proofs.StandsCard.{tag-in, card-refused, card-taken, card-stands}
 use Rattle.judge.proofs.StandsEntry.{entry-refused, entry-taken, entry-line, entry-stands}
 use Rattle.judge.proofs.StandsEnd.{Ended, end-refused, end-taken, end-stands}
 
@@ -47,11 +47,11 @@ module _ {st : State} {fs : List Field} {past : Past} {at : ℕ} (s : Stands st 
       Moves st past at bs (tookOf st bs) (ends (refused k q at t))
   stops-so k q t e = rw (e, ← refused-here k q t) (stopped (Refused k q (st .offset) t))
 
-  took-whole : (f : Field) (rest : List ℕ) → HeadSays fs (bytesOf f ++ rest) (whole f rest) → tookOf st (bytesOf f ++ rest) ≡ fieldTook st f
+  took-whole : (f : Field) (rest : List ℕ) → HeadSays (begun past) fs (bytesOf f ++ rest) (whole f rest) → tookOf st (bytesOf f ++ rest) ≡ fieldTook st f
   unfolding headTook
   took-whole f rest h = took-by s h
 
-  line-whole : (f : Field) (rest : List ℕ) → HeadSays fs (bytesOf f ++ rest) (whole f rest) → lineOf st (bytesOf f ++ rest) ≡ fieldLine st f
+  line-whole : (f : Field) (rest : List ℕ) → HeadSays (begun past) fs (bytesOf f ++ rest) (whole f rest) → lineOf st (bytesOf f ++ rest) ≡ fieldLine st f
   unfolding headLine
   line-whole f rest h = line-by s h
 
@@ -70,7 +70,7 @@ module _ {st : State} {fs : List Field} {past : Past} {at : ℕ} (s : Stands st 
   unfolding fieldLine
   no-line f n = rw (ne-eqb (f .tag) 32 n)
 
-  module _ (f : Field) (rest : List ℕ) (form : RightForm fs f) where
+  module _ (f : Field) (rest : List ℕ) (form : RightForm (begun past) fs f) where
     abbrev here : List ℕ
     here = bytesOf f ++ rest
 
@@ -98,7 +98,7 @@ module _ {st : State} {fs : List Field} {past : Past} {at : ℕ} (s : Stands st 
   unfolding headTook refusedBy refusedHere refusal closing
   moves-so (card-on f rest form w g) b =
       goes-so f rest form (card-taken s f form w g) (card-stands s f form w g)
-      (rw (no-line f (λ e. omega (arith, tag-small s f form w)), append-nil))
+      (rw (no-line f (λ e. omega (arith, tag-in s f form w)), append-nil))
   moves-so (entry-on f rest form w t p) b =
       let n = entry-decides (cardOf fs) past (entryOf f) .passing .1 p in
       goes-so f rest form (entry-taken s w f form t n) (entry-stands s w f form t n (bytes-part (bytesOf f) rest b .0)) (entry-line s w f form t n)

@@ -27,7 +27,7 @@ stamp-small f h = four-small (f .value) (h .1 .1 .1)
 -- ---- a field has at most ten bytes
 listed-small : (t : ℕ) → reading.sizeOf t ≤ 7
 unfolding reading.sizeOf
-listed-small t = go (eqb t 1 || eqb t 4 || eqb t 33) (eqb t 2) (eqb t 3) (within 5 18 t) (eqb t 32)
+listed-small t = go (eqb t 1 || eqb t 4 || eqb t 33) (eqb t 2) (eqb t 3) (within 5 22 t) (eqb t 32)
   where
     go : (a b c d e : Bool) → cond a 4 (cond b 1 (cond c 2 (cond d 5 (cond e 7 0)))) ≤ 7
     go true b c d e = omega arith
@@ -37,7 +37,7 @@ listed-small t = go (eqb t 1 || eqb t 4 || eqb t 33) (eqb t 2) (eqb t 3) (within
     go false false false false true = omega arith
     go false false false false false = omega arith
 
-pub size-small : (fs : List Field) (f : Field) → RightForm fs f → f .tag < 256 → sizeOf f ≤ 10
+pub size-small : {b : Bool} (fs : List Field) (f : Field) → RightForm b fs f → f .tag < 256 → sizeOf f ≤ 10
 unfolding sizeOf
 size-small fs f r t =
     let n = 256 * f .high + f .low in

@@ -4,7 +4,7 @@ use mathlib.Core.Path.{_≡_, refl, sym}
 use mathlib.Core.Bool.{Bool, true, false, cond}
 use mathlib.Core.List.{List, [], _∷_}
 use native.Mathlib.Omega.{arith}
-use lib.Dec.{leb}
+use lib.Dec.{leb, eqb}
 use lib.ListN.{length, drop, length-drop}
 use borrow.Author.Tests.{leb-true, leb-false}
 use Rattle.rules.specs.Lists.{all}
@@ -15,7 +15,7 @@ use Rattle.card.proofs.Lengths.{listed-has}
 use Rattle.chunks.specs.declared.State.{State}
 use Rattle.chunks.specs.declared.What.the-variants.{More, Full}
 use Rattle.chunks.specs.declared.fields.Move.the-variants.{Wait}
-use Rattle.chunks.specs.Took.{refusedBy, headTook, behindTook, asRead, tookOf}
+use Rattle.chunks.specs.Took.{refusedBy, headTook, behindTook, newest, headAt, tookOf}
 use Rattle.chunks.specs.Heard.{Heard, behind, heardOf}
 use Rattle.chunks.proofs.Turns.{hasRoom}
 use Rattle.chunks.proofs.Advances.{wait-on, field-how, taken-size}
@@ -28,18 +28,18 @@ short-value : (t l : ℕ) → lengthGood t l ≡ true → l ≤ 7
 unfolding lengthGood lengths _of_ all
 short-value t l e = leb-true l 7 (listed-has (λ k s. leb s 7) lengths t l refl e)
 
-cut-short : (fs : List Field) {bs : List ℕ} → Cut fs bs → length bs < 10
+cut-short : {b : Bool} (fs : List Field) {bs : List ℕ} → Cut b fs bs → length bs < 10
 cut-short fs noTag = omega arith
 cut-short fs (noLength m) = omega arith
 cut-short fs (halfLength m) = omega arith
 cut-short fs (shortValue {t} {h} {l} m g s) = omega (arith, short-value t (256 * h + l) g)
 
-head-short : (st : State) (fs : List Field) {bs : List ℕ} {h : Head} → HeadSays fs bs h → headTook st h .how ≡ Wait → length bs < 10
+head-short : (st : State) (b : Bool) (fs : List Field) {bs : List ℕ} {h : Head} → HeadSays b fs bs h → headTook st h .how ≡ Wait → length bs < 10
 unfolding headTook refusedBy
-head-short st fs (is-whole f rest r) e = field-how st f Wait (λ q. wait-on (sym q)) (λ v q. absurd (end-wait q)) e
-head-short st fs (is-cut c) e = cut-short fs c
-head-short st fs (is-bad-tag m) e = absurd (end-wait e)
-head-short st fs (is-bad-length m g) e = absurd (end-wait e)
+head-short st b fs (is-whole f rest r) e = field-how st f Wait (λ q. wait-on (sym q)) (λ v q. absurd (end-wait q)) e
+head-short st b fs (is-cut c) e = cut-short fs c
+head-short st b fs (is-bad-tag m) e = absurd (end-wait e)
+head-short st b fs (is-bad-length m g) e = absurd (end-wait e)
 
 behind-short : (st : State) (bs : List ℕ) → behindTook st bs .how ≡ Wait → length bs < 10
 unfolding behindTook refusedBy
@@ -48,11 +48,11 @@ behind-short st (b ∷ bs) e = absurd (end-wait e)
 
 wait-short : (st : State) (bs : List ℕ) → tookOf st bs .how ≡ Wait → length bs < 10
 unfolding tookOf
-wait-short st bs e = go (leb 19 (st .read)) e
+wait-short st bs e = go (eqb (st .tag) 33) e
   where
-    go : (b : Bool) → cond b (behindTook st bs) (headTook st (headOf (asRead (st .read)) bs)) .how ≡ Wait → length bs < 10
+    go : (b : Bool) → cond b (behindTook st bs) (headTook st (headAt st bs)) .how ≡ Wait → length bs < 10
     go true e = behind-short st bs e
-    go false e = head-short st (asRead (st .read)) (head-says (asRead (st .read)) bs) e
+    go false e = head-short st (st .rec .last .seen) (newest (st .tag)) (head-says (st .rec .last .seen) (newest (st .tag)) bs) (unfold headAt in e)
 
 -- so a buffer of 10 bytes is enough for what is left over
 pub left-short : (q : Bool) (room : ℕ) (st : State) (bs : List ℕ) → heardOf q room st bs .what ≡ More → length (drop (heardOf q room st bs .used) bs) < 10

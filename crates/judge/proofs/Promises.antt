@@ -1,5 +1,6 @@
 -- The promise of the judge determines its verdict; and what it claims of one.
 use mathlib.Core.Path.{_≡_, refl, ap, sym, _∙_}
+use mathlib.Core.List.{[], _∷_}
 use Rattle.rules.specs.File.{FileVerdict, accepted, refused}
 use Rattle.rules.proofs.Determined.{tells, Promise, Plainly, Determined, determined, fact-of}
 use Rattle.ledger.specs.Values.{stored}
@@ -11,7 +12,8 @@ use Rattle.judge.proofs.judge as judge
 
 -- ---- no two verdicts read as one
 codeFor : FileVerdict → Verdict
-codeFor (accepted m n l) = Accepted m n (stored l)
+codeFor (accepted m n []) = Accepted m n 0
+codeFor (accepted m n (l ∷ ls)) = Accepted m n (stored l)
 codeFor (refused k q at t) = Refused k q at t
 
 code-for : (r : Verdict) → codeFor (verdictOf r) ≡ r

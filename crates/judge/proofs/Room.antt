@@ -7,17 +7,18 @@ use native.Mathlib.Omega.{arith}
 use lib.Dec.{leb, eqb}
 use lib.ListN.{length, drop, length-drop}
 use borrow.Author.Tests.{le-leb}
-use Rattle.rules.specs.Past.{Taken, Past}
-use Rattle.rules.specs.Entries.{read}
+use Rattle.rules.specs.Commands.{Command}
+use Rattle.rules.specs.Past.{Past}
 use Rattle.rules.specs.Form.{Field, bytesOf, Head, entryOf}
-use Rattle.rules.specs.File.{FileVerdict, Step}
-use Rattle.rules.specs.Lent.{commandIn}
+use Rattle.rules.specs.File.{FileVerdict, Step, begun}
+use Rattle.rules.specs.Entries.{read}
+use Rattle.rules.specs.Lent.{readIn, commandIn}
 use Rattle.rules.specs.Lines.{entryLine}
 use Rattle.rules.proofs.Taken.{counter-good}
 use Rattle.rules.proofs.FileHeads.{HeadSays, is-whole, is-cut, is-bad-tag, is-bad-length, head-says}
 use Rattle.bank.specs.Values.{lentOf}
 use Rattle.bank.proofs.Remembered.{bank-low}
-use Rattle.step.proofs.Leaves.{bank-by}
+use Rattle.bank.proofs.Changed.{recorded-bank}
 use Rattle.chunks.specs.declared.State.{State}
 use Rattle.chunks.specs.declared.Verdict.{Verdict}
 use Rattle.chunks.specs.declared.What.{What}
@@ -40,24 +41,25 @@ use Rattle.judge.proofs.Agrees.{behind-took}
 -- ---- a line is short
 module _ {st : State} {fs : List Field} {past : Past} {at : ℕ} (s : Stands st fs past at) where
   field-short : (f : Field) → Bytes (bytesOf f) → length (fieldLine st f) ≤ 64
-  unfolding fieldLine commandIn read
+  unfolding fieldLine commandIn
   field-short f b = go (eqb (f .tag) 32)
     where
-      counter : st .rec .counter ≤ 7
+      counter : st .rec .share .counter ≤ 7
       counter = rw (counter-is s) (counter-good past)
 
-      here : Taken
-      here = record { stamp = entryOf f .stamp; cmd = commandIn (lentOf (st .rec)) (entryOf f) }
+      command : Command
+      command = commandIn (lentOf (st .rec)) (entryOf f)
 
-      go : (x : Bool) → length (cond x (entryLine here (st .rec .counter)) []) ≤ 64
-      go true = omega (arith, entry-short here (st .rec .counter) (stamp-small f b) (bank-low (here .cmd) (st .rec .counter) counter (bank-by (entryOf f .pins) _ refl)))
+      go : (x : Bool) → length (cond x (entryLine (entryOf f .stamp) command (st .rec .share .counter)) []) ≤ 64
+      go true =
+          omega (arith, entry-short (entryOf f .stamp) command (st .rec .share .counter) (stamp-small f b) (bank-low command (st .rec .share .counter) counter (unfold commandIn readIn read in recorded-bank _ _ (entryOf f .pins))))
       go false = omega arith
 
   pub line-short : (bs : List ℕ) → Bytes bs → length (lineOf st bs) ≤ 64
   unfolding headLine
-  line-short bs b = rw (line-by s (head-says fs bs)) (by-head (head-says fs bs) b)
+  line-short bs b = rw (line-by s (head-says (begun past) fs bs)) (by-head (head-says (begun past) fs bs) b)
     where
-      by-head : {cs : List ℕ} {h : Head} → HeadSays fs cs h → Bytes cs → length (headLine st h) ≤ 64
+      by-head : {cs : List ℕ} {h : Head} → HeadSays (begun past) fs cs h → Bytes cs → length (headLine st h) ≤ 64
       by-head (is-whole f rest form) b = field-short f (bytes-part (bytesOf f) rest b .0)
       by-head (is-cut c) b = omega arith
       by-head (is-bad-tag m) b = omega arith

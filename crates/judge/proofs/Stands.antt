@@ -1,36 +1,42 @@
 -- What a state stands for: these fields of the card, this past, this offset. At any bytes it goes by the same head as they do.
-use Prim.Native.Nat.{ℕ, zero, suc, _+_, _*_, _^_, _≤_, _<_}
+use Prim.Native.Nat.{ℕ, suc, _+_, _*_, _^_, _≤_, _<_}
 use mathlib.Core.Path.{_≡_, refl, ap, sym, _∙_}
-use mathlib.Core.Bool.{false}
+use mathlib.Core.Bool.{Bool, true, false, cond}
 use mathlib.Core.List.{List, [], _∷_}
+use mathlib.Core.Option.{none, some}
 use native.Mathlib.Omega.{arith}
 use lib.Dec.{eqb}
 use lib.ListN.{length}
-use borrow.Author.Tests.{eqb-false, lt-leb}
+use borrow.Author.Tests.{ne-eqb}
 use Rattle.rules.specs.Past.{Past, stampsWhere, countedStamps, commandCount}
-use Rattle.rules.specs.Form.{Field, sizeOf, nextTag, cardWhole, mayCome, Head, headOf, cardOf}
+use Rattle.rules.specs.Verdict.{refreshCount}
+use Rattle.rules.specs.Form.{Field, sizeOf, lastTag, cardWhole, mayCome, Head, headOf, cardOf}
+use Rattle.rules.specs.File.{begun}
 use Rattle.rules.specs.FileReading.{CardRight}
 use Rattle.rules.specs.Lent.{lastCycle, standing, AllTaken}
+use Rattle.rules.specs.Lent as lent
+use Rattle.rules.proofs.Tests.{some-none}
 use Rattle.rules.proofs.Rounds.{Rising}
 use Rattle.rules.proofs.Taken.{rising, below-last}
 use Rattle.rules.proofs.StepByList.{fresh-stands}
 use Rattle.rules.proofs.FileHeads.{HeadSays, head-only}
-use Rattle.rules.proofs.FileSteps.{follows}
+use Rattle.rules.proofs.FileSteps.{tags-rise, tag-below}
 use Rattle.card.specs.Reading.{blankCard}
 use Rattle.card.proofs.Fields.{Holds, holds-blank}
-use Rattle.bank.specs.Values.{lentOf, freshOf}
+use Rattle.bank.specs.declared.Once.{Once}
+use Rattle.bank.specs.Values.{lastOf, lentOf, freshOf}
 use Rattle.bank.proofs.Sizes.{Whole}
 use Rattle.bank.proofs.Beginning.{fresh-lent}
 use Rattle.step.proofs.Arrays.{fresh-whole}
 use Rattle.chunks.specs.declared.State.{State}
-use Rattle.chunks.specs.Took.{wrapped, asRead, headTook, tookOf}
+use Rattle.chunks.specs.Took.{wrapped, newest, headAt, headTook, tookOf}
 use Rattle.chunks.specs.Heard.{startOf, headLine, lineOf}
 use Rattle.chunks.proofs.Wraps.{wrapped-is}
 use Rattle.judge.proofs.Overflow.{few, commands-few, counted-few}
 
 pub record Stands (st : State) (fs : List Field) (past : Past) (at : ℕ) : Type 0 where
   pub card : CardRight fs
-  pub read : st .read ≡ length fs
+  pub tag : st .tag ≡ lastTag fs
   pub holds : Holds (st .rec .card) fs
   pub arrays : Whole (st .rec)
   pub lent : lentOf (st .rec) ≡ standing (cardOf fs) past 0
@@ -39,16 +45,16 @@ pub record Stands (st : State) (fs : List Field) (past : Past) (at : ℕ) : Type
   pub first : cardWhole fs ≡ false → past ≡ []
   pub small : lastCycle past < 2 ^ 32
   pub commands : st .commands ≡ commandCount past
-  pub refreshes : st .refreshes ≡ length (countedStamps past)
+  pub refreshes : st .refreshes ≡ refreshCount past
   pub offset : st .offset ≡ at
   -- a field has at most ten bytes
   pub near : at ≤ 10 * (length fs + length past)
 
 pub start-stands : Stands startOf [] [] 0
-unfolding startOf CardRight AllTaken lastCycle commandCount countedStamps stampsWhere
+unfolding startOf CardRight AllTaken lastCycle commandCount refreshCount countedStamps stampsWhere
 start-stands = record {
   card = tt;
-  read = refl;
+  tag = unfold lastTag in refl;
   holds = unfold freshOf in holds-blank;
   arrays = fresh-whole blankCard;
   lent = fresh-lent blankCard ∙ rw (holds-blank .reads) (sym (fresh-stands (cardOf [])));
@@ -61,49 +67,42 @@ start-stands = record {
   near = omega arith;
 }
 
--- ---- the fields of a right card are tagged by their count
-pub next-is : (fs : List Field) → CardRight fs → nextTag fs ≡ suc (length fs)
-unfolding CardRight nextTag
-next-is [] r = refl
-next-is (f ∷ fs) r = ap suc (follows f fs (r .0) (r .1) ∙ next-is fs (r .3))
+-- ---- the tests of a head look at the newest tag alone
+head-same : (b : Bool) (t : ℕ) (fs : List Field) → t ≡ lastTag fs → (bs : List ℕ) → headOf b (newest t) bs ≡ headOf b fs bs
+unfolding headOf mayCome newest
+head-same b t fs e [] = refl
+head-same b t fs e (c ∷ bs) = rw e (unfold lastTag in refl)
 
-pub whole-is : (fs : List Field) → CardRight fs → cardWhole fs ≡ eqb (length fs) 18
-unfolding CardRight cardWhole
-whole-is [] r = refl
-whole-is (f ∷ fs) r = ap (λ (t : ℕ). eqb t 18) (follows f fs (r .0) (r .1) ∙ next-is fs (r .3))
-
-pub fields-few : (fs : List Field) → CardRight fs → length fs ≤ 18
-unfolding CardRight
-fields-few [] r = omega arith
-fields-few (f ∷ fs) r = omega (arith, fields-few fs (r .3), eqb-false (length fs) 18 (sym (whole-is fs (r .3)) ∙ r .1))
-
-as-next : (n : ℕ) → nextTag (asRead n) ≡ suc n
-unfolding nextTag asRead
-as-next zero = refl
-as-next (suc n) = refl
-
-as-whole : (n : ℕ) → cardWhole (asRead n) ≡ eqb n 18
-unfolding cardWhole asRead
-as-whole zero = refl
-as-whole (suc n) = refl
-
-pub head-same : (fs : List Field) → CardRight fs → (bs : List ℕ) → headOf (asRead (length fs)) bs ≡ headOf fs bs
-unfolding headOf mayCome
-head-same fs r [] = refl
-head-same fs r (t ∷ bs) = rw (whole-is fs r, next-is fs r, as-whole (length fs), as-next (length fs))
+begun-is : (x : Once) (past : Past) → lastOf x ≡ lent.lastOf past → x .seen ≡ begun past
+unfolding lastOf lent.lastOf begun
+begun-is x [] e = go (x .seen) e
+  where
+    go : (b : Bool) → cond b (some (x .at)) none ≡ none → b ≡ false
+    go true e = absurd (some-none (sym e))
+    go false e = refl
+begun-is x (y ∷ past) e = go (x .seen) e
+  where
+    go : (b : Bool) → cond b (some (x .at)) none ≡ some (y .stamp) → b ≡ true
+    go true e = refl
+    go false e = absurd (some-none e)
 
 module _ {st : State} {fs : List Field} {past : Past} {at : ℕ} (s : Stands st fs past at) where
-  pub read-small : st .read ≤ 18
-  read-small = omega (arith, s .read, fields-few fs (s .card))
+  pub has-begun : st .rec .last .seen ≡ begun past
+  unfolding lentOf standing
+  has-begun = begun-is (st .rec .last) past (ap (λ (l : lent.Lent). l .last) (s .lent))
 
-  head-is : {bs : List ℕ} {h : Head} → HeadSays fs bs h → headOf (asRead (st .read)) bs ≡ h
-  head-is {bs} h = rw (s .read) (head-same fs (s .card) bs ∙ head-only fs h)
+  pub not-ended : eqb (st .tag) 33 ≡ false
+  not-ended = ne-eqb (st .tag) 33 (λ e. omega (arith, e, s .tag, tag-below fs (s .card)))
 
-  pub took-by : {bs : List ℕ} {h : Head} → HeadSays fs bs h → tookOf st bs ≡ headTook st h
+  head-is : {bs : List ℕ} {h : Head} → HeadSays (begun past) fs bs h → headAt st bs ≡ h
+  unfolding headAt
+  head-is {bs} h = rw has-begun (head-same (begun past) (st .tag) fs (s .tag) bs ∙ head-only (begun past) fs h)
+
+  pub took-by : {bs : List ℕ} {h : Head} → HeadSays (begun past) fs bs h → tookOf st bs ≡ headTook st h
   unfolding tookOf
-  took-by h = rw (lt-leb 19 (st .read) (omega (arith, read-small)), head-is h)
+  took-by h = rw (not-ended, head-is h)
 
-  pub line-by : {bs : List ℕ} {h : Head} → HeadSays fs bs h → lineOf st bs ≡ headLine st h
+  pub line-by : {bs : List ℕ} {h : Head} → HeadSays (begun past) fs bs h → lineOf st bs ≡ headLine st h
   unfolding lineOf
   line-by h = rw (head-is h)
 
@@ -113,11 +112,15 @@ module _ {st : State} {fs : List Field} {past : Past} {at : ℕ} (s : Stands st 
       let r : Rising past = rising (cardOf fs) past (s .taken) in
       omega (arith, s .small, few (suc (lastCycle past)) past r (below-last past r))
 
+  refreshes-few : refreshCount past ≤ length past
+  unfolding refreshCount
+  refreshes-few = counted-few past
+
   pub far-below : (st .commands ≤ 2 ^ 32) × (st .refreshes ≤ 2 ^ 32) × (st .offset < 2 ^ 36)
   far-below = (
     omega (arith, s .commands, commands-few past, entries-few),
-    omega (arith, s .refreshes, counted-few past, entries-few),
-    omega (arith, s .offset, s .near, entries-few, fields-few fs (s .card)),
+    omega (arith, s .refreshes, refreshes-few, entries-few),
+    omega (arith, s .offset, s .near, entries-few, tags-rise fs (s .card), tag-below fs (s .card)),
   )
 
   pub offset-behind : (f : Field) → sizeOf f ≤ 10 → wrapped (st .offset + sizeOf f) ≡ at + sizeOf f

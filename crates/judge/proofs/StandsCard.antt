@@ -1,21 +1,22 @@
 -- A field of the card: taken where its value is in range, and then the state stands for one field more; else refused.
-use Prim.Native.Nat.{ℕ, suc, _+_, _≤_}
-use mathlib.Core.Path.{_≡_, sym, _∙_}
-use mathlib.Core.Bool.{true, false}
-use mathlib.Core.List.{List, _∷_}
+use Prim.Native.Nat.{ℕ, _+_, _≤_}
+use mathlib.Core.Path.{_≡_, refl, sym, _∙_}
+use mathlib.Core.Bool.{Bool, true, false}
+use mathlib.Core.List.{List, [], _∷_}
 use native.Mathlib.Omega.{arith}
 use lib.ListN.{length}
-use borrow.Author.Tests.{ne-eqb, eqb-false, le-leb}
+use borrow.Author.Tests.{ne-eqb, le-leb}
 use Rattle.rules.specs.Ranges.{within}
 use Rattle.rules.specs.Past.{Past}
 use Rattle.rules.specs.Folds.{orElse, firstOf}
 use Rattle.rules.specs.Checks.{refusal, unless}
-use Rattle.rules.specs.Form.{Field, sizeOf, lengthGood, cardWhole, cardOf, fieldGood}
+use Rattle.rules.specs.Form.{Field, sizeOf, lastTag, lengthGood, cardWhole, ofTrace, cardOf, fieldGood}
+use Rattle.rules.specs.File.{begun}
 use Rattle.rules.specs.FileReading.{RightForm, CardRight}
 use Rattle.rules.specs.Lent.{AllTaken}
 use Rattle.rules.proofs.Decided.{or-none}
 use Rattle.rules.proofs.StepByList.{fresh-stands}
-use Rattle.rules.proofs.FileSteps.{follows}
+use Rattle.rules.proofs.FileSteps.{no-more, card-tag}
 use Rattle.card.specs.Reading.{readRefusal}
 use Rattle.card.proofs.Fields.{good-field, holds-more}
 use Rattle.bank.specs.Values.{freshOf}
@@ -25,26 +26,42 @@ use Rattle.chunks.specs.declared.State.{State}
 use Rattle.chunks.specs.declared.fields.Move.the-variants.{On}
 use Rattle.chunks.specs.Took.{tookAs, refusedHere, cardAfter, cardTook, fieldTook}
 use Rattle.judge.proofs.Overflow.{size-small}
-use Rattle.judge.proofs.Stands.{Stands, next-is, whole-is, fields-few, offset-behind}
+use Rattle.judge.proofs.Stands.{Stands, offset-behind}
 
-module _ {st : State} {fs : List Field} {past : Past} {at : ℕ} (s : Stands st fs past at) (f : Field) (form : RightForm fs f) (w : cardWhole fs ≡ false) where
-  tag-is : f .tag ≡ suc (length fs)
-  tag-is = follows f fs form w ∙ next-is fs (s .card)
+module _ {st : State} {fs : List Field} {past : Past} {at : ℕ} (s : Stands st fs past at) (f : Field) (form : RightForm (begun past) fs f) (o : ofTrace (f .tag) ≡ false) where
+  -- no entry has come: before the card is whole none may, and behind one nothing of the card
+  none-yet : past ≡ []
+  none-yet = go past refl (cardWhole fs) refl form
+    where
+      go : (p : Past) → past ≡ p → (x : Bool) → cardWhole fs ≡ x → RightForm (begun p) fs f → past ≡ []
+      go [] e x w h = e
+      go (y ∷ p) e false w h = s .first w
+      go (y ∷ p) e true w h = absurd (no-more fs f (unfold begun in h) w o)
 
-  pub tag-small : f .tag ≤ 18
-  tag-small = omega (arith, tag-is, fields-few fs (s .card), eqb-false (length fs) 18 (sym (whole-is fs (s .card)) ∙ w))
+  form-first : RightForm false fs f
+  form-first = go none-yet form
+    where
+      go : past ≡ [] → RightForm (begun past) fs f → RightForm false fs f
+      go e h = unfold begun in (rw e at h)
+
+  right : fieldGood fs f ≡ true → CardRight (f ∷ fs)
+  unfolding CardRight
+  right g = (form-first, o, g, s .card)
+
+  pub tag-in : (1 ≤ f .tag) × (f .tag ≤ 22)
+  tag-in = card-tag fs f (s .card) form o
 
   sized : lengthGood (f .tag) (length (f .value)) ≡ true
   sized = rw (form .whole) (form .size)
 
   size : sizeOf f ≤ 10
-  size = size-small fs f form (omega (arith, tag-small))
+  size = size-small fs f form (omega (arith, tag-in))
 
   read-is : readRefusal (st .rec .card) (f .tag) (f .value) ≡ unless (fieldGood fs f) 4
   unfolding readRefusal firstOf orElse unless within
   read-is = rw (
-    le-leb 1 (f .tag) (omega (arith, tag-is)),
-    le-leb (f .tag) 18 tag-small,
+    le-leb 1 (f .tag) (tag-in .0),
+    le-leb (f .tag) 22 (tag-in .1),
     sized,
     good-field (st .rec .card) fs f (s .holds),
     or-none,
@@ -52,7 +69,7 @@ module _ {st : State} {fs : List Field} {past : Past} {at : ℕ} (s : Stands st 
 
   pub of-card : fieldTook st f ≡ cardTook st f
   unfolding fieldTook
-  of-card = rw (ne-eqb (f .tag) 32 (λ e. omega (arith, tag-small)), ne-eqb (f .tag) 33 (λ e. omega (arith, tag-small)))
+  of-card = rw (ne-eqb (f .tag) 32 (λ e. omega (arith, tag-in)), ne-eqb (f .tag) 33 (λ e. omega (arith, tag-in)))
 
   pub card-refused : fieldGood fs f ≡ false → fieldTook st f ≡ refusedHere st (refusal 4 0 0)
   unfolding cardTook unless
@@ -63,17 +80,17 @@ module _ {st : State} {fs : List Field} {past : Past} {at : ℕ} (s : Stands st 
   card-taken g = of-card ∙ rw (read-is, g, cardTook)
 
   pub card-stands : fieldGood fs f ≡ true → Stands (cardAfter st f) (f ∷ fs) past (at + sizeOf f)
-  unfolding cardAfter CardRight AllTaken
+  unfolding cardAfter AllTaken
   card-stands g =
       let held = holds-more (st .rec .card) fs f (s .holds) in
       record {
-        card = (form, w, g, s .card);
-        read = rw (s .read) (omega arith);
+        card = right g;
+        tag = unfold lastTag in refl;
         holds = unfold freshOf in held;
         arrays = fresh-whole _;
-        lent = fresh-lent _ ∙ rw (held .reads, s .first w) (sym (fresh-stands (cardOf (f ∷ fs))));
-        taken = rw (s .first w) tt;
-        first = λ e. s .first w;
+        lent = fresh-lent _ ∙ rw (held .reads, none-yet) (sym (fresh-stands (cardOf (f ∷ fs))));
+        taken = rw none-yet tt;
+        first = λ e. none-yet;
         small = s .small;
         commands = s .commands;
         refreshes = s .refreshes;

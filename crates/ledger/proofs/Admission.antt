@@ -12,13 +12,14 @@ use Rattle.rules.specs.Card.{Card}
 use Rattle.rules.specs.Folds.{orElse, firstOf}
 use Rattle.rules.specs.Checks.{Refusal, refusal, unless}
 use Rattle.rules.specs.Ranges.{cardGood}
-use Rattle.rules.specs.Lent.{Ledger, refreshedGood, ledgerGood}
-use Rattle.rules.specs.Units.{interval}
+use Rattle.rules.specs.Account.{every}
+use Rattle.rules.specs.Clock.{beatOf}
+use Rattle.rules.specs.Lent.{Ledger, numberOf, sinceGood, ledgerGood}
 use Rattle.rules.proofs.Tests.{le-cases, both-true}
 use Rattle.rules.proofs.Rounding.{interval-positive}
 use Rattle.rules.proofs.Taken.{owing-biased}
 use Rattle.ledger.specs.Values.{ledgerOf}
-use Rattle.ledger.specs.Parts.{admitted}
+use Rattle.ledger.specs.Parts.{Near, admitted}
 use Rattle.ledger.specs.declared.Ledger as code
 
 module _ (card : Card) (g : Ledger) (t : ℕ) where
@@ -86,19 +87,19 @@ module _ (card : Card) (g : code.Ledger) where
   pub record Sound : Type 0 where
     pub good : ledgerGood card (ledgerOf g) ≡ true
     pub range : cardGood card ≡ true
-    pub positive : 0 < interval card
+    pub near : (n : ℕ) → Near (beatOf card) n
     pub low : g .owed ≤ 16
-    pub since : g .refreshed ≤ g .at
+    pub since : g .since ≤ numberOf (ledgerOf g)
 
   pub sound-when : ledgerGood card (ledgerOf g) ≡ true → Sound
-  unfolding ledgerGood refreshedGood ledgerOf
+  unfolding ledgerGood sinceGood ledgerOf
   sound-when e =
       let a = both-true _ _ e in
       let b = both-true _ _ (a .0) in
       record {
         good = e;
         range = b .0;
-        positive = interval-positive card (b .0);
+        near = λ n. record { some = unfold beatOf every in interval-positive card (b .0); next = unfold beatOf every in omega arith };
         low = leb-true (g .owed) 16 (sym (owing-biased (g .owed)) ∙ b .1);
         since = leb-true _ _ (a .1);
       }

@@ -1,136 +1,210 @@
 -- The deadline of a ledger is the first cycle that fails with no counted refresh; moved on to a cycle before it, the ledger has the same one.
-use Prim.Native.Nat.{ℕ, suc, _+_, _-_, _/_, _≤_, _<_}
-use mathlib.Core.Path.{_≡_, refl}
-use mathlib.Core.Bool.{Bool, true, false, cond}
+use Prim.Native.Nat.{ℕ, suc, _+_, _-_, _*_, _≤_, _<_}
+use mathlib.Core.Path.{_≡_, refl, ap, sym, _∙_}
+use mathlib.Core.Bool.{Bool, true, false, cond, not, _&&_}
 use mathlib.Core.Option.{none, some}
 use mathlib.Core.Logic.{⊎-elim}
+use native.Mathlib.Nat.{add-mul}
 use native.Mathlib.Omega.{arith}
 use lib.Dec.{leb, ltb}
+use lib.IntN.{subℕ}
 use borrow.Author.Tests.{le-leb}
-use Rattle.rules.specs.Units.{interval}
-use Rattle.rules.specs.Account.{lpddr3, firstIdle}
-use Rattle.rules.specs.Lent.{ledgerGood, refreshedGood, ledgerTo, failingTo, failingOf}
+use Rattle.rules.specs.Levels.{stopped}
+use Rattle.rules.specs.Account.{lpddr3, Beat, fallen, nextAfter, steady, failing, idle, firstIdle}
+use Rattle.rules.specs.Clock.{beatOf}
+use Rattle.rules.specs.Lent.{numberOf, sinceGood, ledgerGood, countedTo, ledgerTo, failingTo, failingOf}
 use Rattle.rules.proofs.Tests.{lt-cases}
 use Rattle.rules.proofs.Decided.{orElse-none}
-use Rattle.rules.proofs.Idle.{owedAt, idle-biased}
+use Rattle.rules.proofs.Idle.{owedAt, idle-beat}
+use Rattle.rules.proofs.Clocked.{relabel}
+use Rattle.rules.proofs.Closed.{failing-through}
+use Rattle.rules.proofs.Ledgers.{number-to}
 use Rattle.rules.proofs.Taken.{owing-biased}
 use Rattle.card.specs.Values.{cardOf}
 use Rattle.card.specs.declared.Card.{Card}
+use Rattle.pins.specs.Values.{levelOf}
 use Rattle.ledger.specs.declared.Ledger.{Ledger}
-use Rattle.ledger.specs.Values.{ledgerOf, codeOf, overAt, lateAt, closedAt, deadlineOf}
+use Rattle.ledger.specs.Values.{ledgerOf, stored, codeOf, overAt, lateAt, closedAt, deadlineBy, deadlineOf}
 use Rattle.ledger.specs.Parts.{IdleArgs}
 use Rattle.ledger.proofs.Admission.{Sound, sound-when}
-use Rattle.ledger.proofs.Closing.{quotients-rise, closed-ahead, within, none-yet, fails-there}
-use Rattle.ledger.proofs.Promises.{stored-is}
+use Rattle.ledger.proofs.Closing.{closed-ahead, past-le, within, none-yet, fails-there}
+use Rattle.ledger.proofs.Promises.{stored-is, level-is}
 
--- a ledger with its numbers moved on
-abbrev pub reached : ℕ → Ledger → ℕ → Ledger
-reached I g t = record { at = t; owed = g .owed + (t / I - g .at / I); refreshed = g .refreshed }
+below : (x y : Bool) (n t : ℕ) → t < cond (x && not y) n 0 → (x ≡ true) × (y ≡ false) × (t < n)
+below true true n t h = absurd (omega arith)
+below true false n t h = (refl, refl, h)
+below false y n t h = absurd (omega arith)
 
-below : (b : Bool) (n t : ℕ) → t < cond b n 0 → (b ≡ true) × (t < n)
-below true n t h = (refl, h)
-below false n t h = absurd (omega arith)
+over-is : (b : Beat) (n k : ℕ) → nextAfter b n + k * b .span ≡ b .next + (fallen b n + k) * b .span
+unfolding nextAfter
+over-is b n k = rw (add-mul (fallen b n) k (b .span)) (omega arith)
+
+pub by-so : (b : Beat) (g : Ledger) (n x : ℕ) → n ≡ numberOf (ledgerOf g) → x ≡ closedAt b n (g .owed) (g .since) → g .at + (x - n) ≡ deadlineBy b g
+unfolding deadlineBy
+by-so b g n x en ex = rw (ex, en)
 
 module _ (card : Card) (g : Ledger) where
-  abbrev I : ℕ
-  I = interval (cardOf card)
+  abbrev b : Beat
+  b = beatOf (cardOf card)
+
+  abbrev n : ℕ
+  n = numberOf (ledgerOf g)
 
   abbrev closed : ℕ
-  closed = closedAt I (g .at) (g .owed) (g .refreshed)
+  closed = closedAt b n (g .owed) (g .since)
+
+  abbrev good : Bool
+  good = ledgerGood (cardOf card) (ledgerOf g)
+
+  abbrev halted : Bool
+  halted = stopped (levelOf (g .level))
 
   -- as the code finds the deadline
-  pub not-sound : ledgerGood (cardOf card) (ledgerOf g) ≡ false → 0 ≡ deadlineOf card g
+  pub not-sound : good ≡ false → 0 ≡ deadlineOf card g
   unfolding deadlineOf
   not-sound e = rw e
 
-  pub sound-deadline : ledgerGood (cardOf card) (ledgerOf g) ≡ true → closed ≡ deadlineOf card g
+  pub not-running : good ≡ true → halted ≡ true → 0 ≡ deadlineOf card g
   unfolding deadlineOf
-  sound-deadline e = rw e
+  not-running e h = rw (e, h)
 
-  -- the numbers moved on
-  module _ (t : ℕ) (positive : 0 < I) (later : g .at ≤ t) where
-    whole : g .at + (t - g .at) ≡ t
-    whole = omega arith
+  pub running : good ≡ true → halted ≡ false → deadlineBy b g ≡ deadlineOf card g
+  unfolding deadlineOf
+  running e h = rw (e, h)
 
-    pub reaches : codeOf (ledgerTo I (ledgerOf g) t) ≡ reached I g t
-    unfolding codeOf ledgerTo ledgerOf lpddr3 owedAt
-    reaches =
-        let z = idle-biased I positive 8 (g .owed) (g .at) (t - g .at) in
-        rw (z, stored-is (g .owed + ((g .at + (t - g .at)) / I - g .at / I)), whole)
+  -- each cycle counts
+  counts : halted ≡ false → (t : ℕ) → countedTo (ledgerOf g) t ≡ t - g .at
+  unfolding countedTo ledgerOf
+  counts h t = rw h
 
-  -- ---- before the deadline
-  module _ (t : ℕ) (later : g .at ≤ t) (early : t < deadlineOf card g) where
-    pub sound : Sound (cardOf card) g
-    unfolding deadlineOf
-    sound = sound-when (cardOf card) g (below (ledgerGood (cardOf card) (ledgerOf g)) closed t early .0)
+  -- ---- of a ledger that 13 lets pass, and whose cycles count
+  module _ (ok : good ≡ true) (runs : halted ≡ false) where
+    s : Sound (cardOf card) g
+    s = sound-when (cardOf card) g ok
 
-    before : t < closed
-    unfolding deadlineOf
-    before = below (ledgerGood (cardOf card) (ledgerOf g)) closed t early .1
+    ahead : n < closed
+    ahead = closed-ahead b n (g .owed) (g .since) (s .near n .some)
 
-    args : IdleArgs I (g .at) (g .owed) t
-    args = record { some = sound .positive; low = sound .low; later = later }
+    is : deadlineOf card g ≡ g .at + (closed - n)
+    is = sym (running ok runs) ∙ (unfold deadlineBy in refl)
 
-    pub none-failing : failingTo I (ledgerOf g) (suc t) ≡ none
-    unfolding failingTo ledgerOf
-    none-failing =
-        let n : suc t - suc (g .at) ≡ t - g .at = omega arith in
-        rw n (none-yet I (g .at) (g .owed) t args (g .refreshed) before)
+    args : (t : ℕ) → IdleArgs b n (g .owed) (n + (t - g .at))
+    args t = record { near = s .near n; low = s .low; later = omega arith }
 
-    pub none-here : g .at < t → (failingTo I (ledgerOf g) t ≡ none) × (failingOf I (ledgerTo I (ledgerOf g) t) ≡ none)
-    unfolding failingTo failingOf ledgerTo firstIdle ledgerOf
-    none-here h =
-        let n : suc t - suc (g .at) ≡ suc (t - suc (g .at)) = omega arith in
-        let m : t - g .at ≡ suc (t - suc (g .at)) = omega arith in
-        let w : g .at + suc (t - suc (g .at)) ≡ t = omega arith in
-        let o = orElse-none _ _ (rw n at none-failing) in
-        (o .0, rw m (rw w at (o .1)))
+    through : (t : ℕ) → failingTo b (ledgerOf g) (suc t)
+        ≡ relabel (λ m. g .at + (m - n)) (firstIdle lpddr3 (steady b) (subℕ (g .owed) 8) (g .since) n n (n + (t - g .at) - n))
+    unfolding ledgerOf
+    through t =
+        let z : n + (t - g .at) - n ≡ t - g .at = omega arith in
+        rw z (rw (counts runs t) at (failing-through b (ledgerOf g) t))
 
-    still : g .owed + (t / I - g .at / I) ≤ 16
-    still = within I (g .at) (g .owed) t args (omega (arith, before))
+    none-until : (t : ℕ) → t < deadlineOf card g → failingTo b (ledgerOf g) (suc t) ≡ none
+    none-until t h =
+        let l : n + (t - g .at) < closed = omega (arith, is, ahead) in
+        through t ∙ rw (none-yet b n (g .owed) (n + (t - g .at)) (args t) (g .since) l) (unfold relabel in refl)
 
-    moved-good : ledgerGood (cardOf card) (ledgerOf (reached I g t)) ≡ true
-    unfolding ledgerGood refreshedGood ledgerOf
-    moved-good = rw (sound .range, owing-biased (g .owed + (t / I - g .at / I)), le-leb _ 16 still, le-leb (g .refreshed) t (omega (arith, sound .since)))
+    not-yet : (t : ℕ) → t ≤ g .at → failingTo b (ledgerOf g) t ≡ none
+    unfolding failingTo ledgerOf firstIdle
+    not-yet t h = let z : t - suc (g .at) ≡ 0 = omega arith in rw (z, runs)
 
-    pub same-deadline : deadlineOf card (reached I g t) ≡ deadlineOf card g
-    unfolding deadlineOf
-    same-deadline =
-        let q = quotients-rise I (g .at) t (sound .positive) later in
-        let a : t / I + (17 - (g .owed + (t / I - g .at / I))) ≡ g .at / I + (17 - g .owed) = omega (arith, q, still) in
-        let b : closedAt I t (g .owed + (t / I - g .at / I)) (g .refreshed) ≡ closed = rw a (omega (arith, before, later)) in
-        rw (moved-good, sound .good) b
-
-  not-yet : (t : ℕ) → t ≤ g .at → failingTo I (ledgerOf g) t ≡ none
-  unfolding failingTo ledgerOf firstIdle
-  not-yet t h = let z : t - suc (g .at) ≡ 0 = omega arith in rw z
-
-  -- ---- of a ledger that 13 lets pass it is the first cycle that fails
-  module _ (good : ledgerGood (cardOf card) (ledgerOf g) ≡ true) where
-    ahead : g .at < closed
-    ahead = let s = sound-when (cardOf card) g good in closed-ahead I (g .at) (g .owed) (g .refreshed) (s .positive) (s .low)
-
-    pub none-before : (t : ℕ) → t ≤ deadlineOf card g → failingTo I (ledgerOf g) t ≡ none
+    pub none-before : (t : ℕ) → t ≤ deadlineOf card g → failingTo b (ledgerOf g) t ≡ none
     none-before t h = ⊎-elim
         (λ (p : (g .at < t) × (ltb (g .at) t ≡ true)).
         let u : suc (t - 1) ≡ t = omega arith in
-        rw u at (none-failing (t - 1) (omega arith) (omega arith)))
+        rw u at (none-until (t - 1) (omega arith)))
         (λ (p : (t ≤ g .at) × (ltb (g .at) t ≡ false)). not-yet t (p .0))
         (lt-cases (g .at) t)
 
-    pub one-there : failingTo I (ledgerOf g) (suc (deadlineOf card g))
-        ≡ some (cond (leb (overAt I (g .at) (g .owed)) (lateAt I (g .at) (g .refreshed))) 19 20, deadlineOf card g)
-    unfolding failingTo ledgerOf
+    pub one-there : failingTo b (ledgerOf g) (suc (deadlineOf card g))
+        ≡ some (cond (leb (overAt b n (g .owed)) (lateAt (b .span) n (g .since))) 19 20, deadlineOf card g)
     one-there =
-        let s = sound-when (cardOf card) g good in
-        let n : suc closed - suc (g .at) ≡ closed - g .at = omega (arith, ahead) in
-        rw (← sound-deadline good, n)
-        (fails-there I (g .at) (g .owed) closed (record { some = s .positive; low = s .low; later = omega (arith, ahead) }) (g .refreshed) (omega arith))
+        let z : n + (g .at + (closed - n) - g .at) ≡ closed = omega (arith, ahead) in
+        let f : firstIdle lpddr3 (steady b) (subℕ (g .owed) 8) (g .since) n n (closed - n) ≡ some (cond (leb (overAt b n (g .owed)) (lateAt (b .span) n (g .since))) 19 20, closed) =
+        fails-there b n (g .owed) closed (record { near = s .near n; low = s .low; later = omega (arith, ahead) }) (g .since) (omega arith) in
+        rw is (through (g .at + (closed - n)) ∙ rw (z, f) (unfold relabel in refl))
 
--- twice is once
-pub reached-twice : (I : ℕ) (g : Ledger) (s t : ℕ) → 0 < I → g .at ≤ s → s ≤ t → reached I (reached I g s) t ≡ reached I g t
-reached-twice I g s t p a b =
-    let x = quotients-rise I (g .at) s p a in
-    let y = quotients-rise I s t p b in
-    let e : g .owed + (s / I - g .at / I) + (t / I - s / I) ≡ g .owed + (t / I - g .at / I) = omega arith in
-    λ i. record { at = t; owed = e i; refreshed = g .refreshed }
+  -- 19 and 20 where it comes to stand
+  here-is : (t : ℕ) → g .at ≤ t → failingOf b (ledgerTo b (ledgerOf g) t)
+      ≡ failing lpddr3 (steady b) (idle (lpddr3 .credit) (steady b) (subℕ (g .owed) 8) n (countedTo (ledgerOf g) t)) (g .since) (n + countedTo (ledgerOf g) t) t
+  unfolding failingOf
+  here-is t later = rw (number-to b (ledgerOf g) t (unfold ledgerOf in later)) (unfold ledgerTo ledgerOf in refl)
+
+  -- ---- before the deadline
+  module _ (t : ℕ) (later : g .at ≤ t) (early : t < deadlineOf card g) where
+    parts : (good ≡ true) × (halted ≡ false) × (t < deadlineBy b g)
+    unfolding deadlineOf
+    parts = below good halted (deadlineBy b g) t early
+
+    pub sound : Sound (cardOf card) g
+    sound = sound-when (cardOf card) g (parts .0)
+
+    pub none-failing : failingTo b (ledgerOf g) (suc t) ≡ none
+    none-failing = none-until (parts .0) (parts .1) t early
+
+    idle-none : g .at < t → firstIdle lpddr3 (steady b) (subℕ (g .owed) 8) (g .since) n (g .at) (suc (t - suc (g .at))) ≡ none
+    unfolding failingTo ledgerOf
+    idle-none h = let e : suc t - suc (g .at) ≡ suc (t - suc (g .at)) = omega arith in rw (parts .1, e) at none-failing
+
+    last-none : g .at < t →
+        failing lpddr3 (steady b) (idle (lpddr3 .credit) (steady b) (subℕ (g .owed) 8) n (suc (t - suc (g .at)))) (g .since) (n + suc (t - suc (g .at))) t ≡ none
+    unfolding firstIdle
+    last-none h = let w : g .at + suc (t - suc (g .at)) ≡ t = omega arith in rw w at (orElse-none _ _ (idle-none h) .1)
+
+    pub none-here : g .at < t → (failingTo b (ledgerOf g) t ≡ none) × (failingOf b (ledgerTo b (ledgerOf g) t) ≡ none)
+    none-here h =
+        let m : countedTo (ledgerOf g) t ≡ suc (t - suc (g .at)) = counts (parts .1) t ∙ omega arith in
+        (none-before (parts .0) (parts .1) t (omega arith), here-is t later ∙ rw m (last-none h))
+
+    abbrev m : ℕ
+    m = n + (t - g .at)
+
+    before : m < closed
+    before = omega (arith, early, is (parts .0) (parts .1), ahead (parts .0) (parts .1))
+
+    abbrev owed : ℕ
+    owed = g .owed + (fallen b m - fallen b n)
+
+    rise : fallen b n ≤ fallen b m
+    rise = past-le b n (g .owed) m (args (parts .0) (parts .1) t)
+
+    still : owed ≤ 16
+    still = within b n (g .owed) m (args (parts .0) (parts .1) t) (omega (arith, before))
+
+    -- its numbers then
+    abbrev there : Ledger
+    there = record { at = t; owed = owed; since = g .since; skipped = t - m; level = g .level }
+
+    reaches : codeOf (ledgerTo b (ledgerOf g) t) ≡ there
+    unfolding codeOf ledgerTo ledgerOf lpddr3
+    reaches = λ i. record { at = t; owed = owing i; since = g .since; skipped = t - number i; level = level-is (g .level) i }
+      where
+        number : numberOf (ledgerOf g) + countedTo (ledgerOf g) t ≡ m
+        number = ap (λ (j : ℕ). numberOf (ledgerOf g) + j) (counts (parts .1) t)
+
+        owing : stored (idle 8 (steady b) (subℕ (g .owed) 8) (numberOf (ledgerOf g)) (countedTo (ledgerOf g) t)) ≡ owed
+        owing =
+            let e : owedAt b n (g .owed) (n + countedTo (ledgerOf g) t) ≡ owed = unfold owedAt in rw number in
+            ap stored (idle-beat b (sound .near n .some) 8 (g .owed) n (countedTo (ledgerOf g) t)) ∙ stored-is (owedAt b n (g .owed) (n + countedTo (ledgerOf g) t)) ∙ e
+
+    number-there : numberOf (ledgerOf there) ≡ m
+    unfolding numberOf ledgerOf
+    number-there = omega (arith, later)
+
+    good-there : ledgerGood (cardOf card) (ledgerOf there) ≡ true
+    unfolding ledgerGood sinceGood
+    good-there = rw (sound .range, number-there) (unfold ledgerOf in rw (owing-biased owed, le-leb owed 16 still, le-leb (g .since) m (omega (arith, sound .since))))
+
+    over-there : overAt b m owed ≡ overAt b n (g .owed)
+    over-there = over-is b m (16 - owed) ∙ ap (λ (k : ℕ). b .next + k * b .span) same ∙ sym (over-is b n (16 - g .owed))
+      where
+        same : fallen b m + (16 - owed) ≡ fallen b n + (16 - g .owed)
+        same = omega (arith, rise, still)
+
+    closed-there : closedAt b m owed (g .since) ≡ closed
+    closed-there = rw over-there (omega (arith, before))
+
+    pub same-deadline : deadlineOf card (codeOf (ledgerTo b (ledgerOf g) t)) ≡ deadlineOf card g
+    same-deadline =
+        let x : deadlineBy b there ≡ t + (closed - m) = unfold deadlineBy in rw (number-there, closed-there) in
+        let y : deadlineOf card there ≡ deadlineBy b there = unfold deadlineOf in rw (good-there, parts .1) in
+        ap (deadlineOf card) reaches ∙ y ∙ x ∙ omega (arith, before, later, is (parts .0) (parts .1))

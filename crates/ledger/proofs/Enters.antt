@@ -1,23 +1,27 @@
 -- An entry's own cycle, as its promise says it.
-use Prim.Native.Nat.{ℕ, suc, _+_, _-_, _*_, _%_, _≤_, _<_}
+use Prim.Native.Nat.{ℕ, suc, _+_, _-_, _*_, _≤_, _<_}
 use mathlib.Core.Path.{_≡_, refl, ap, sym, _∙_, subst}
-use mathlib.Core.Bool.{Bool, true, false}
+use mathlib.Core.Bool.{Bool, true, false, cond, not, _&&_}
 use mathlib.Core.Option.{Option, none, some}
 use native.Mathlib.Omega.{arith}
-use lib.Dec.{eqb}
 use lib.IntN.{subℕ}
-use borrow.Author.Tests.{le-leb, lt-leb, ne-eqb}
-use Rattle.rules.specs.Account.{lpddr3, isDue, takeOne, idle}
+use borrow.Author.Tests.{le-leb, lt-leb}
+use Rattle.rules.specs.Levels.{stopped}
+use Rattle.rules.specs.Account.{lpddr3, Beat, onBeat, steady, takeOne, idle}
 use Rattle.rules.specs.Checks.{Refusal, refusal, named}
-use Rattle.rules.specs.Lent.{ledgerTo, refreshedAt, failingTo, failingOf}
+use Rattle.rules.specs.Lent.{numberOf, countedTo, ledgerTo, refreshedAt, atLevel, failingTo, failingOf}
 use Rattle.rules.specs.Lent as lent
 use Rattle.rules.proofs.Biased.{due, take-biased, cycle-biased, owing, failing-biased}
-use Rattle.rules.proofs.Ledgers.{none-failing-below, as-it-was}
+use Rattle.rules.proofs.Ledgers.{number-to, none-failing-there, none-failing-below, moved-twice}
+use Rattle.pins.specs.Values.{levelOf}
+use Rattle.pins.specs.declared.Level.{Level}
 use Rattle.ledger.specs.declared.Ledger.{Ledger}
+use Rattle.ledger.specs.declared.Effect.{Effect}
 use Rattle.ledger.specs.declared.Answer.the-variants.{Done}
 use Rattle.ledger.specs.declared.After.{After}
 use Rattle.ledger.specs.Values.{ledgerOf, refusalOf, isNone, unlessRefused, Left}
-use Rattle.ledger.specs.Parts.{NextArgs}
+use Rattle.ledger.specs.Parts.{Near, NextArgs, dueNext, shifted}
+use Rattle.ledger.proofs.Closing.{near-on}
 
 -- what an answer that is a refusal, and one that is none, says of the promise
 pub refused-left : (o : Option Refusal) (old new : lent.Ledger) (r : After) → Left o old new r → isNone (refusalOf (r .answer)) ≡ false →
@@ -40,98 +44,120 @@ stood-left o old new r l n = go o (l .told) (l .ledger)
     go (some x) t g = let e : false ≡ true = sym (ap isNone t) ∙ n in let z : _≡_ {A = ℕ} 0 1 = cc in absurd (omega arith)
 
 -- ---- the next cycle
-pub due-here : (I t s : ℕ) → suc s ≡ t → t % I ≡ 0 → due I t ≡ 1
-unfolding due isDue
-due-here I t s e z =
-    let d : eqb (suc s % I) 0 ≡ true = rw (e, z) in
-    subst (λ u. due I u ≡ 1) e (rw d)
+module _ (g : Ledger) (b : Beat) (t : ℕ) (a : NextArgs g b t) where
+  abbrev n : ℕ
+  n = numberOf (ledgerOf g)
 
-pub not-here : (I t s : ℕ) → suc s ≡ t → (t % I ≡ 0 → ⊥) → due I t ≡ 0
-unfolding due isDue
-not-here I t s e z =
-    let d : eqb (suc s % I) 0 ≡ false = rw e (ne-eqb (t % I) 0 z) in
-    subst (λ u. due I u ≡ 0) e (rw d)
+  -- it counts, or nothing is due there
+  gained : (o : ℕ) → idle 8 (steady b) (subℕ o 8) n (countedTo (ledgerOf g) t) ≡ subℕ (o + cond (dueNext b (ledgerOf g)) 1 0) 8
+  unfolding countedTo dueNext ledgerOf idle due
+  gained o = let one : t - g .at ≡ 1 = omega (arith, a .next) in rw one (go (stopped (levelOf (g .level))))
+    where
+      go : (x : Bool) → idle 8 (steady b) (subℕ o 8) (numberOf (ledgerOf g)) (cond x 0 1) ≡ subℕ (o + cond (not x && onBeat b (suc (numberOf (ledgerOf g)))) 1 0) 8
+      go true = let z : o ≡ o + 0 = omega arith in ap (λ (y : ℕ). subℕ y 8) z
+      go false =
+          let z : o + cond (onBeat b (suc (numberOf (ledgerOf g)))) 1 0 - 0 ≡ o + cond (onBeat b (suc (numberOf (ledgerOf g)))) 1 0 = omega arith in
+          let y : numberOf (ledgerOf g) + 1 ≡ suc (numberOf (ledgerOf g)) = omega arith in
+          rw y (cycle-biased 8 (steady b) false (suc (numberOf (ledgerOf g))) o ∙ ap (λ (v : ℕ). subℕ v 8) z)
 
-pub next-is : (g : Ledger) (I t : ℕ) → NextArgs g I t → (x : ℕ) → x ≡ g .owed + due I t →
-    ledgerOf (record { at = t; owed = x; refreshed = g .refreshed }) ≡ ledgerTo I (ledgerOf g) t
-unfolding ledgerOf ledgerTo idle lpddr3
-next-is g I t a x e =
-    let one : t - g .at ≡ 1 = omega (arith, a .next) in
-    let up : g .at + 1 ≡ t = omega (arith, a .next) in
-    let same : x ≡ g .owed + due I t - 0 = omega arith in
-    let c : subℕ x 8 ≡ idle 8 I (subℕ (g .owed) 8) (g .at) 1 = rw (same, up) (sym (cycle-biased 8 I false t (g .owed))) in
-    rw one (λ i. record { at = t; owing = c i; refreshed = g .refreshed })
+  next-is : (x : ℕ) → x ≡ g .owed + cond (dueNext b (ledgerOf g)) 1 0 → ledgerOf (shifted g t x) ≡ ledgerTo b (ledgerOf g) t
+  unfolding shifted ledgerTo ledgerOf lpddr3
+  next-is x e = λ i. record { at = t; owing = owing i; since = g .since; skipped = t - (n + countedTo (ledgerOf g) t); level = levelOf (g .level) }
+    where
+      owing : subℕ x 8 ≡ idle 8 (steady b) (subℕ (g .owed) 8) n (countedTo (ledgerOf g) t)
+      owing = ap (λ (y : ℕ). subℕ y 8) e ∙ sym (gained (g .owed))
 
--- ---- the cycle of the stamp
-one-more : (I : ℕ) (g : lent.Ledger) (t s : ℕ) → suc s ≡ t → g .at ≤ s → ledgerTo I (ledgerTo I g s) t ≡ ledgerTo I g t
-unfolding ledgerTo idle lpddr3
-one-more I g t s e le =
-    let a : t - s ≡ 1 = omega arith in
-    let b : t - g .at ≡ suc (s - g .at) = omega arith in
-    let d : g .at + suc (s - g .at) ≡ s + 1 = omega arith in
-    rw (a, b, d)
+  pub next-due : (d : Bool) → d ≡ dueNext b (ledgerOf g) → d ≡ true → ledgerOf (shifted g t (g .owed + 1)) ≡ ledgerTo b (ledgerOf g) t
+  next-due d e y = next-is (g .owed + 1) (rw (← e, y))
+
+  pub next-none : (d : Bool) → d ≡ dueNext b (ledgerOf g) → d ≡ false → ledgerOf (shifted g t (g .owed)) ≡ ledgerTo b (ledgerOf g) t
+  next-none d e y = next-is (g .owed) (rw (← e, y) (omega arith))
+
+-- as the code finds what is due there
+pub none-due : (g : Ledger) (b : Beat) (x : Bool) → x ≡ stopped (levelOf (g .level)) → x ≡ true → false ≡ dueNext b (ledgerOf g)
+unfolding dueNext ledgerOf
+none-due g b x e h = rw (← e, h)
+
+pub due-on-beat : (g : Ledger) (b : Beat) (x : Bool) (n : ℕ) → x ≡ stopped (levelOf (g .level)) → x ≡ false → n ≡ numberOf (ledgerOf g) → onBeat b (n + 1) ≡ dueNext b (ledgerOf g)
+due-on-beat g b x n e h w = ap (onBeat b) next ∙ (unfold dueNext ledgerOf in rw (← e, h))
+  where
+    next : n + 1 ≡ suc (numberOf (ledgerOf g))
+    next = omega (arith, w)
 
 -- ---- moved on to the stamp: it stands there; it is refused on the way; it comes there from the cycle before
-abbrev AtStamp : Ledger → (I t : ℕ) → After → Type 0
-AtStamp g I t = Left (named 11 (failingTo I (ledgerOf g) t)) (ledgerOf g) (ledgerTo I (ledgerOf g) t)
+abbrev AtStamp : Ledger → Beat → (t : ℕ) → After → Type 0
+AtStamp g b t = Left (named 11 (failingTo b (ledgerOf g) t)) (ledgerOf g) (ledgerTo b (ledgerOf g) t)
 
-pub stands-there : (g : Ledger) (I t : ℕ) → g .at ≡ t → AtStamp g I t (record { ledger = g; answer = Done })
-unfolding named refusalOf unlessRefused ledgerOf
-stands-there g I t e =
-    let n : failingTo I (ledgerOf g) t ≡ none = subst (λ u. failingTo I (ledgerOf g) u ≡ none) e (none-failing-below I (ledgerOf g)) in
-    let s : ledgerTo I (ledgerOf g) t ≡ ledgerOf g = subst (λ u. ledgerTo I (ledgerOf g) u ≡ ledgerOf g) e (as-it-was I (ledgerOf g)) in
-    record { told = rw n; ledger = rw (n, s) }
+abbrev Through : Ledger → Beat → (t : ℕ) → After → Type 0
+Through g b t = Left (named 11 (failingTo b (ledgerOf g) (suc t))) (ledgerOf g) (ledgerTo b (ledgerOf g) t)
 
-module _ (g : Ledger) (I s : ℕ) (r : After) (b : Left (named 11 (failingTo I (ledgerOf g) (suc s))) (ledgerOf g) (ledgerTo I (ledgerOf g) s) r) (t : ℕ) (next : suc s ≡ t) where
-  pub refused-before : isNone (refusalOf (r .answer)) ≡ false → AtStamp g I t r
-  refused-before n = refused-left _ _ _ r b n _ (λ x e. rw next at e) _
+pub stands-there : (g : Ledger) (b : Beat) (t : ℕ) (r : After) → g .at ≡ t → Through g b t r → AtStamp g b t r
+stands-there g b t r e l =
+    let e′ : ledgerOf g .at ≡ t = unfold ledgerOf in e in
+    let below : failingTo b (ledgerOf g) t ≡ none = subst (λ u. failingTo b (ledgerOf g) u ≡ none) e′ (none-failing-below b (ledgerOf g)) in
+    let there : failingTo b (ledgerOf g) (suc t) ≡ none = subst (λ u. failingTo b (ledgerOf g) (suc u) ≡ none) e′ (none-failing-there b (ledgerOf g)) in
+    let same : failingTo b (ledgerOf g) (suc t) ≡ failingTo b (ledgerOf g) t = there ∙ sym below in
+    rw same at l
+
+module _ (g : Ledger) (b : Beat) (s : ℕ) (r : After) (l : Through g b s r) (t : ℕ) (next : suc s ≡ t) where
+  pub refused-before : isNone (refusalOf (r .answer)) ≡ false → AtStamp g b t r
+  refused-before n = refused-left _ _ _ r l n _ (λ x e. rw next at e) _
 
   module _ (n : isNone (refusalOf (r .answer)) ≡ true) where
     pub cycle-before : suc (r .ledger .at) ≡ t
     unfolding ledgerOf ledgerTo
-    cycle-before = let e : r .ledger .at ≡ s = ap (λ (x : lent.Ledger). x .at) (stood-left _ _ _ r b n .1) in omega arith
+    cycle-before = let e : r .ledger .at ≡ s = ap (λ (x : lent.Ledger). x .at) (stood-left _ _ _ r l n .1) in omega arith
 
-    pub comes-there : g .at ≤ s → (h : Ledger) → ledgerOf h ≡ ledgerTo I (ledgerOf (r .ledger)) t → AtStamp g I t (record { ledger = h; answer = Done })
-    unfolding named refusalOf unlessRefused ledgerOf
-    comes-there later h e =
-        let p = stood-left _ _ _ r b n in
-        let z : named 11 (failingTo I (ledgerOf g) t) ≡ none = rw next at (p .0) in
-        let w : ledgerOf h ≡ ledgerTo I (ledgerOf g) t =
-        e ∙ ap (λ (x : lent.Ledger). ledgerTo I x t) (p .1) ∙ one-more I (ledgerOf g) t s next later in
-        record { told = sym z; ledger = rw z w }
+    module _ (later : g .at ≤ s) where
+      later′ : ledgerOf g .at ≤ s
+      later′ = unfold ledgerOf in later
 
--- ---- a counted refresh
-takes : (g : Ledger) (x : ℕ) → x ≡ g .owed - 1 → ledgerOf (record { at = g .at; owed = x; refreshed = g .at }) ≡ refreshedAt true (ledgerOf g)
-unfolding ledgerOf refreshedAt lpddr3
-takes g x e =
+      pub near-before : Near b (numberOf (ledgerOf g)) → Near b (numberOf (ledgerOf (r .ledger)))
+      near-before a = rw (stood-left _ _ _ r l n .1, number-to b (ledgerOf g) s later′) (near-on b _ _ a (omega arith))
+
+      pub comes-there : (h : Ledger) → ledgerOf h ≡ ledgerTo b (ledgerOf (r .ledger)) t → AtStamp g b t (record { ledger = h; answer = Done })
+      unfolding named refusalOf unlessRefused
+      comes-there h e =
+          let p = stood-left _ _ _ r l n in
+          let z : named 11 (failingTo b (ledgerOf g) t) ≡ none = rw next at (p .0) in
+          let w : ledgerOf h ≡ ledgerTo b (ledgerOf g) t =
+          e ∙ ap (λ (x : lent.Ledger). ledgerTo b x t) (p .1) ∙ moved-twice b (ledgerOf g) s t later′ (omega arith) in
+          record { told = sym z; ledger = rw z w }
+
+-- ---- what an entry does there
+takes : (g : Ledger) (v : Level) (n x : ℕ) → n ≡ numberOf (ledgerOf g) → x ≡ g .owed - 1 →
+    ledgerOf (record { at = g .at; owed = x; since = n; skipped = g .skipped; level = v }) ≡ atLevel (levelOf v) (refreshedAt true (ledgerOf g))
+unfolding ledgerOf refreshedAt atLevel lpddr3
+takes g v n x w e =
     let c : subℕ x 8 ≡ takeOne 8 (subℕ (g .owed) 8) = rw e (sym (take-biased 8 (g .owed))) in
-    λ i. record { at = g .at; owing = c i; refreshed = g .at }
+    λ i. record { at = g .at; owing = c i; since = w i; skipped = g .skipped; level = levelOf v }
 
-pub takes-one : (g : Ledger) (b : Bool) (x : ℕ) → b ≡ true → x ≡ g .owed - 1 →
-    ledgerOf (record { at = g .at; owed = x; refreshed = g .at }) ≡ refreshedAt b (ledgerOf g)
-takes-one g b x t e = rw t (takes g x e)
+pub takes-one : (g : Ledger) (x : Effect) (n o : ℕ) → x .counted ≡ true → n ≡ numberOf (ledgerOf g) → o ≡ g .owed - 1 →
+    ledgerOf (record { at = g .at; owed = o; since = n; skipped = g .skipped; level = x .level }) ≡ atLevel (levelOf (x .level)) (refreshedAt (x .counted) (ledgerOf g))
+takes-one g x n o t w e = rw t (takes g (x .level) n o w e)
 
-pub takes-none : (g : Ledger) (b : Bool) → b ≡ false → ledgerOf g ≡ refreshedAt b (ledgerOf g)
-unfolding refreshedAt
-takes-none g b e = rw e
+pub takes-none : (g : Ledger) (x : Effect) → x .counted ≡ false →
+    ledgerOf (record { at = g .at; owed = g .owed; since = g .since; skipped = g .skipped; level = x .level }) ≡ atLevel (levelOf (x .level)) (refreshedAt (x .counted) (ledgerOf g))
+unfolding refreshedAt atLevel ledgerOf
+takes-none g x e = rw e
 
 -- ---- 19 and 20
-module _ (h : Ledger) (I : ℕ) where
-  failing-here : failingOf I (ledgerOf h) ≡ owing lpddr3 I (h .owed) (h .refreshed) (h .at)
+module _ (h : Ledger) (b : Beat) where
+  failing-here : failingOf b (ledgerOf h) ≡ owing lpddr3 (steady b) (h .owed) (h .since) (numberOf (ledgerOf h)) (h .at)
   unfolding failingOf ledgerOf lpddr3
-  failing-here = failing-biased lpddr3 I (h .owed) (h .refreshed) (h .at)
+  failing-here = failing-biased lpddr3 (steady b) (h .owed) (h .since) (numberOf (ledgerOf h)) (h .at)
 
-  pub fails-19 : 16 < h .owed → failingOf I (ledgerOf h) ≡ some (19, h .at)
+  pub fails-19 : 16 < h .owed → failingOf b (ledgerOf h) ≡ some (19, h .at)
   unfolding owing lpddr3
   fails-19 a = failing-here ∙ (rw (lt-leb (h .owed) 16 a))
 
-  pub fails-20 : h .owed ≤ 16 → h .refreshed + 9 * I < h .at → failingOf I (ledgerOf h) ≡ some (20, h .at)
+  pub fails-20 : (n : ℕ) → n ≡ numberOf (ledgerOf h) → h .owed ≤ 16 → h .since + 9 * b .span < n → failingOf b (ledgerOf h) ≡ some (20, h .at)
   unfolding owing lpddr3
-  fails-20 a b = failing-here ∙ (rw (le-leb (h .owed) 16 a, lt-leb (h .at - h .refreshed) (9 * I) (omega arith)))
+  fails-20 n e a l = failing-here ∙ (rw (le-leb (h .owed) 16 a, ← e, lt-leb (n - h .since) (9 * b .span) (omega arith)))
 
-  pub fails-not : h .owed ≤ 16 → h .at ≤ h .refreshed + 9 * I → failingOf I (ledgerOf h) ≡ none
+  pub fails-not : (n : ℕ) → n ≡ numberOf (ledgerOf h) → h .owed ≤ 16 → n ≤ h .since + 9 * b .span → failingOf b (ledgerOf h) ≡ none
   unfolding owing lpddr3
-  fails-not a b = failing-here ∙ (rw (le-leb (h .owed) 16 a, le-leb (h .at - h .refreshed) (9 * I) (omega arith)))
+  fails-not n e a l = failing-here ∙ (rw (le-leb (h .owed) 16 a, ← e, le-leb (n - h .since) (9 * b .span) (omega arith)))
 
 -- what is told where a rule fails, and where none does
 pub told-failing : (o : Option (ℕ × ℕ)) (q t : ℕ) → o ≡ some (q, t) → named 11 o ≡ some (refusal 11 q t)

@@ -1,19 +1,27 @@
 -- What a ledger that is moved on comes to, as its promise says it.
-use Prim.Native.Nat.{ℕ, suc, _-_}
-use mathlib.Core.Path.{_≡_, refl, sym, _∙_}
+use Prim.Native.Nat.{ℕ, suc, _+_, _-_, _≤_}
+use mathlib.Core.Path.{_≡_, refl, ap, sym, _∙_}
+use mathlib.Core.Bool.{Bool, true, false}
 use mathlib.Core.Option.{Option, none, some}
 use native.Mathlib.Omega.{arith}
 use lib.IntN.{ℤ, subℕ}
+use Rattle.rules.specs.Levels.{stopped}
 use Rattle.rules.specs.Checks.{Refusal, named}
-use Rattle.rules.specs.Account.{lpddr3}
-use Rattle.rules.specs.Lent.{ledgerTo, failingTo}
+use Rattle.rules.specs.Account.{lpddr3, Beat, steady, idle, firstIdle}
+use Rattle.rules.specs.Lent.{numberOf, countedTo, ledgerTo, failingTo}
 use Rattle.rules.specs.Lent as lent
+use Rattle.rules.proofs.Clocked.{relabel}
+use Rattle.rules.proofs.Closed.{failing-through}
+use Rattle.rules.proofs.Ledgers.{counted-by}
+use Rattle.pins.specs.Values.{levelOf}
 use Rattle.ledger.specs.declared.Ledger.{Ledger}
+use Rattle.ledger.specs.declared.account.Idle.{Idle}
+use Rattle.ledger.specs.declared.account.Idle.the-variants.{Stands, Breaks}
 use Rattle.ledger.specs.declared.Answer.{Answer}
 use Rattle.ledger.specs.declared.Answer.the-variants.{Done, Overdue}
 use Rattle.ledger.specs.declared.After.{After}
 use Rattle.ledger.specs.Values.{ledgerOf, refusalOf, unlessRefused, Left}
-use Rattle.ledger.specs.Parts.{stands, breaks, outcome, idleTo}
+use Rattle.ledger.specs.Parts.{stands, breaks, outcome, idleOf, idleTo, shifted}
 
 -- an outcome is one of the two, and tells the account apart
 told-stands : (z w : ℤ) (o : Option (ℕ × ℕ)) → outcome z o ≡ stands w → (z ≡ w) × (o ≡ none)
@@ -29,28 +37,86 @@ told-breaks z q t (some x) e =
     let b : x .1 ≡ t = cc in
     λ i. some (a i, b i)
 
-module _ (g : Ledger) (I to : ℕ) where
-  abbrev MovedOn : After → Type 0
-  MovedOn = Left (named 11 (failingTo I (ledgerOf g) (suc to))) (ledgerOf g) (ledgerTo I (ledgerOf g) to)
+-- what is told where no rule fails, and where one does
+left-none : (o : Option (ℕ × ℕ)) {old new : lent.Ledger} {h : Ledger} → o ≡ none → ledgerOf h ≡ new → Left (named 11 o) old new (record { ledger = h; answer = Done })
+unfolding named refusalOf unlessRefused
+left-none o e s = record { told = rw e; ledger = rw e s }
 
-  same-cycles : suc to - suc (g .at) ≡ to - g .at
+left-some : (o : Option (ℕ × ℕ)) {new : lent.Ledger} {g : Ledger} {q t : ℕ} → o ≡ some (q, t) → Left (named 11 o) (ledgerOf g) new (record { ledger = g; answer = Overdue q t })
+unfolding named refusalOf unlessRefused
+left-some o e = record { told = rw e; ledger = rw e }
+
+module _ (g : Ledger) (b : Beat) (to : ℕ) where
+  abbrev n : ℕ
+  n = numberOf (ledgerOf g)
+
+  abbrev c : ℕ
+  c = countedTo (ledgerOf g) to
+
+  abbrev MovedOn : After → Type 0
+  MovedOn = Left (named 11 (failingTo b (ledgerOf g) (suc to))) (ledgerOf g) (ledgerTo b (ledgerOf g) to)
+
+  same-cycles : n + c - n ≡ c
   same-cycles = omega arith
 
-  pub none-failing : (x : ℕ) → idleTo I (g .at) (g .owed) (g .refreshed) (to - g .at) ≡ stands (subℕ x 8) →
-      MovedOn (record { ledger = record { at = to; owed = x; refreshed = g .refreshed }; answer = Done })
-  unfolding ledgerTo failingTo ledgerOf idleTo named refusalOf unlessRefused lpddr3
-  none-failing x e =
-      let p = told-stands _ _ _ e in
-      record {
-        told = rw (same-cycles, p .1);
-        ledger = rw (same-cycles, p .1) (λ i. record { at = to; owing = sym (p .0) i; refreshed = g .refreshed });
-      }
+  -- through the numbers that count
+  shifts : (x : ℕ) → idle 8 (steady b) (subℕ (g .owed) 8) n c ≡ subℕ x 8 → ledgerOf (shifted g to x) ≡ ledgerTo b (ledgerOf g) to
+  unfolding shifted ledgerTo ledgerOf lpddr3
+  shifts x e = λ i. record { at = to; owing = sym e i; since = g .since; skipped = to - (n + c); level = levelOf (g .level) }
 
-  pub one-failing : (q t : ℕ) → idleTo I (g .at) (g .owed) (g .refreshed) (to - g .at) ≡ breaks q t → MovedOn (record { ledger = g; answer = Overdue q t })
-  unfolding ledgerTo failingTo ledgerOf idleTo named refusalOf unlessRefused lpddr3
-  one-failing q t e =
-      let p = told-breaks _ q t _ e in
-      record { told = rw (same-cycles, p); ledger = rw (same-cycles, p) }
+  failing : (o : Option (ℕ × ℕ)) → firstIdle lpddr3 (steady b) (subℕ (g .owed) 8) (g .since) n n c ≡ o →
+      failingTo b (ledgerOf g) (suc to) ≡ relabel (λ m. g .at + (m - n)) o
+  unfolding ledgerOf
+  failing o e = failing-through b (ledgerOf g) to ∙ ap (relabel (λ m. g .at + (m - n))) e
+
+  none-failing : (x : ℕ) → idleTo b n (g .owed) (g .since) (n + c - n) ≡ stands (subℕ x 8) → MovedOn (record { ledger = shifted g to x; answer = Done })
+  none-failing x e =
+      let e′ : outcome (idle 8 (steady b) (subℕ (g .owed) 8) n c) (firstIdle lpddr3 (steady b) (subℕ (g .owed) 8) (g .since) n n c) ≡ stands (subℕ x 8) = unfold idleTo in rw same-cycles at e in
+      let p = told-stands _ _ _ e′ in
+      let f : failingTo b (ledgerOf g) (suc to) ≡ none = failing none (p .1) ∙ (unfold relabel in refl) in
+      left-none (failingTo b (ledgerOf g) (suc to)) f (shifts x (p .0))
+
+  one-failing : (q m : ℕ) → idleTo b n (g .owed) (g .since) (n + c - n) ≡ breaks q m → MovedOn (record { ledger = g; answer = Overdue q (g .at + (m - n)) })
+  one-failing q m e =
+      let e′ : outcome (idle 8 (steady b) (subℕ (g .owed) 8) n c) (firstIdle lpddr3 (steady b) (subℕ (g .owed) 8) (g .since) n n c) ≡ breaks q m = unfold idleTo in rw same-cycles at e in
+      let p = told-breaks _ q m _ e′ in
+      let f : failingTo b (ledgerOf g) (suc to) ≡ some (q, g .at + (m - n)) = failing (some (q, m)) p ∙ (unfold relabel in refl) in
+      left-some (failingTo b (ledgerOf g) (suc to)) f
+
+  -- as the code finds the two numbers
+  module _ (n′ c′ : ℕ) (en : n′ ≡ n) (ec : c′ ≡ c) (r : Idle) (done : idleOf r ≡ idleTo b n′ (g .owed) (g .since) (n′ + c′ - n′)) where
+    same : idleTo b n (g .owed) (g .since) (n + c - n) ≡ idleOf r
+    same = sym (rw (en, ec) at done)
+
+    pub stands-moved : (x : ℕ) → r ≡ Stands x → MovedOn (record { ledger = shifted g to x; answer = Done })
+    stands-moved x e = none-failing x (same ∙ (unfold idleOf in rw e))
+
+    pub breaks-told : (q m : ℕ) → r ≡ Breaks q m → MovedOn (record { ledger = g; answer = Overdue q (g .at + (m - n′)) })
+    breaks-told q m e = rw en (one-failing q m (same ∙ (unfold idleOf in rw e)))
+
+-- ---- as the code counts
+pub counted-none : (g : Ledger) (t : ℕ) (x : Bool) → x ≡ stopped (levelOf (g .level)) → x ≡ true → 0 ≡ countedTo (ledgerOf g) t
+unfolding countedTo ledgerOf
+counted-none g t x e h = rw (← e, h)
+
+pub counted-each : (g : Ledger) (t : ℕ) (x : Bool) → x ≡ stopped (levelOf (g .level)) → x ≡ false → t - g .at ≡ countedTo (ledgerOf g) t
+unfolding countedTo ledgerOf
+counted-each g t x e h = rw (← e, h)
+
+pub number-by : (g : Ledger) → numberOf (ledgerOf g) ≤ g .at
+unfolding numberOf ledgerOf
+number-by g = omega arith
+
+pub numbers-by : (g : Ledger) (t : ℕ) → g .at ≤ t → numberOf (ledgerOf g) + countedTo (ledgerOf g) t ≤ t
+numbers-by g t h = omega (arith, number-by g, by)
+  where
+    by : countedTo (ledgerOf g) t ≤ t - g .at
+    by = unfold ledgerOf in counted-by (ledgerOf g) t
+
+pub shift-so : (g : Ledger) (t o n c : ℕ) → n ≡ numberOf (ledgerOf g) → c ≡ countedTo (ledgerOf g) t →
+    record { at = t; owed = o; since = g .since; skipped = t - (n + c); level = g .level } ≡ shifted g t o
+unfolding shifted
+shift-so g t o n c en ec = rw (en, ec)
 
 -- a refusal gives the ledger back
 pub refused-as : (o : Option Refusal) (x : Refusal) → o ≡ some x → (g : Ledger) (a : Answer) → refusalOf a ≡ some x → (new : lent.Ledger) →

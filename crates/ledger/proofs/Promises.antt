@@ -11,14 +11,18 @@ use Rattle.rules.specs.Checks.{Refusal, refusal}
 use Rattle.rules.specs.Lent as lent
 use Rattle.rules.proofs.Tests.{lt-cases}
 use Rattle.rules.proofs.Determined.{tells, Promise, Determined, determined, fact-of}
+use Rattle.pins.specs.Values.{levelOf}
+use Rattle.pins.specs.declared.Level.{Level}
+use Rattle.pins.specs.declared.Level.the-variants.{Awake, PowerDown, SelfRefresh, Deep}
 use Rattle.ledger.specs.declared.Ledger.{Ledger}
 use Rattle.ledger.specs.declared.Answer.{Answer}
 use Rattle.ledger.specs.declared.Answer.the-variants.{Done, BadRecord, Earlier, Overdue}
 use Rattle.ledger.specs.declared.After.{After}
-use Rattle.ledger.specs.Values.{ledgerOf, stored, codeOf, refusalOf, Left}
+use Rattle.ledger.specs.Values.{ledgerOf, stored, levelIn, codeOf, refusalOf, Left}
 use Rattle.ledger.proofs.calls.moved as moved
 use Rattle.ledger.proofs.calls.entered as entered
 use Rattle.ledger.proofs.calls.deadline as deadline
+use Rattle.ledger.proofs.moving.number_of as number-of
 use Rattle.ledger.proofs.move_on as move-on
 
 -- the case that has these numbers
@@ -40,9 +44,16 @@ stored-is x = ⊎-elim
     (λ (p : (8 ≤ x) × (ltb x 8 ≡ false)). rw (p .1) (omega arith))
     (lt-cases x 8)
 
+pub level-is : (l : Level) → levelIn (levelOf l) ≡ l
+unfolding levelIn levelOf
+level-is Awake = refl
+level-is PowerDown = refl
+level-is SelfRefresh = refl
+level-is Deep = refl
+
 pub code-is : (g : Ledger) → codeOf (ledgerOf g) ≡ g
 unfolding ledgerOf codeOf
-code-is g = λ i. record { at = g .at; owed = stored-is (g .owed) i; refreshed = g .refreshed }
+code-is g = λ i. record { at = g .at; owed = stored-is (g .owed) i; since = g .since; skipped = g .skipped; level = level-is (g .level) i }
 
 -- two that are told and left so are one
 pub one-left : (o : Option Refusal) (old new : lent.Ledger) (r s : After) → Left o old new r → Left o old new s → r ≡ s
@@ -68,6 +79,12 @@ deadline-says w = deadline.clauses (w .𝓤) (w .H) (w .𝓖 .A) (w .𝓜 .mem) 
 
 pub deadline-determined : Determined deadline.ended deadline-says
 deadline-determined = determined deadline.ended deadline-says (λ κs a r e. fact-of _) (λ κs a r r′ ws ws′ p p′. (p ∙ sym p′, refl))
+
+abbrev number-of-says : Promise number-of.ended
+number-of-says w = number-of.clauses (w .𝓤) (w .H) (w .𝓖 .A) (w .𝓜 .mem) (w .𝓡 .run)
+
+pub number-of-determined : Determined number-of.ended number-of-says
+number-of-determined = determined number-of.ended number-of-says (λ κs a r e. fact-of _) (λ κs a r r′ ws ws′ p p′. (p ∙ sym p′, refl))
 
 abbrev move-on-says : Promise move-on.ended
 move-on-says w = move-on.clauses (w .𝓤) (w .H) (w .𝓖 .A) (w .𝓜 .mem) (w .𝓡 .run)

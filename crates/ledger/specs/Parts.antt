@@ -1,27 +1,38 @@
 -- The parts of the account: idle time in closed form, a ledger moved on or taken through an entry's cycle, what it is asked.
-use Prim.Native.Nat.{ℕ, suc, _-_, _≤_, _<_}
+use Prim.Native.Nat.{ℕ, suc, _+_, _-_, _^_, _≤_, _<_}
 use mathlib.Core.Path.{_≡_}
 use mathlib.Core.List.{[], _∷_}
 use mathlib.Core.Option.{Option, none, some}
-use mathlib.Core.Bool.{Bool, true, false, cond}
+use mathlib.Core.Bool.{Bool, true, false, cond, not, _&&_}
 use lib.Dec.{leb}
 use lib.IntN.{ℤ, subℕ}
 use Rattle.rules.specs.Card.{Card}
-use Rattle.rules.specs.Units.{interval}
+use Rattle.rules.specs.Levels.{stopped}
 use Rattle.rules.specs.Folds.{orElse, firstOf}
-use Rattle.rules.specs.Account.{lpddr3, idle, firstIdle}
+use Rattle.rules.specs.Account.{lpddr3, steady, onBeat, idle, firstIdle}
+use Rattle.rules.specs.Account as paper
+use Rattle.rules.specs.Clock.{beatOf}
 use Rattle.rules.specs.Checks.{Refusal, unless, named}
 use Rattle.rules.specs.Lent as lent
 use Rattle.ledger.specs.declared.Ledger.{Ledger}
 use Rattle.ledger.specs.declared.After.{After}
+use Rattle.ledger.specs.declared.account.Beat.{Beat}
 use Rattle.ledger.specs.declared.account.Idle.{Idle}
 use Rattle.ledger.specs.declared.account.Idle.the-variants.{Stands, Breaks}
 use Rattle.ledger.specs.Values.{ledgerOf, Left}
 
--- the ledger after idle time, or the rule that fails first with its cycle
+unfoldable pub beatAs : Beat → paper.Beat
+beatAs b = record { next = b .next; span = b .span }
+
+-- the next due is at most a span after number n
+pub record Near (b : paper.Beat) (n : ℕ) : Type 0 where
+  pub some : 0 < b .span
+  pub next : b .next ≤ n + b .span
+
+-- the ledger after idle time, or the rule that fails first with its number
 pub data Outcome : Type 0 where
   stands : ℤ → Outcome
-  breaks : (rule cycle : ℕ) → Outcome
+  breaks : (rule number : ℕ) → Outcome
 
 unfoldable pub outcome : ℤ → Option (ℕ × ℕ) → Outcome
 outcome z none = stands z
@@ -32,50 +43,74 @@ unfoldable pub idleOf : Idle → Outcome
 idleOf (Stands x) = stands (subℕ x 8)
 idleOf (Breaks q t) = breaks q t
 
-unfoldable pub idleTo : (I at owed refreshed j : ℕ) → Outcome
-idleTo I at owed refreshed j = outcome (idle 8 I (subℕ owed 8) at j) (firstIdle lpddr3 I (subℕ owed 8) refreshed at j)
+unfoldable pub idleTo : paper.Beat → (n owed since j : ℕ) → Outcome
+idleTo b n owed since j = outcome (idle 8 (steady b) (subℕ owed 8) n j) (firstIdle lpddr3 (steady b) (subℕ owed 8) since n n j)
+
+-- the first number that fails, in fewer bits than it is stored in
+pub record ClosedAs (x r : ℕ) : Type 0 where
+  pub is : r ≡ x
+  pub small : r < 2 ^ 40
 
 -- what the closed form asks
-pub record IdleArgs (I at owed to : ℕ) : Type 0 where
-  pub some : 0 < I
+pub record IdleArgs (b : paper.Beat) (n owed to : ℕ) : Type 0 where
+  pub near : Near b n
   pub low : owed ≤ 16
-  pub later : at ≤ to
+  pub later : n ≤ to
 
--- the number that stands is within the limit
-pub record IdleDone (I at owed refreshed to : ℕ) (r : Idle) : Type 0 where
-  pub is : idleOf r ≡ idleTo I at owed refreshed (to - at)
+-- the ledger that stands is within the limit; a number that fails is one of those passed
+pub record IdleDone (b : paper.Beat) (n owed since to : ℕ) (r : Idle) : Type 0 where
+  pub is : idleOf r ≡ idleTo b n owed since (to - n)
   pub low : (x : ℕ) → r ≡ Stands x → x ≤ 16
+  pub passed : (q m : ℕ) → r ≡ Breaks q m → (n < m) × (m ≤ to)
 
--- a sound ledger, an interval, and a cycle from its own on
-pub record ReachArgs (g : Ledger) (I to : ℕ) : Type 0 where
-  pub some : 0 < I
+-- a cycle from the ledger's own on
+abbrev pub Later : Ledger → ℕ → Type 0
+Later g to = g .at ≤ to
+
+-- a ledger as after cycle `to`, owing this then
+unfoldable pub shifted : Ledger → (to owed : ℕ) → Ledger
+shifted g to owed = record {
+  at = to;
+  owed = owed;
+  since = g .since;
+  skipped = to - (lent.numberOf (ledgerOf g) + lent.countedTo (ledgerOf g) to);
+  level = g .level;
+}
+
+-- a sound ledger, a beat whose next due is near, and a cycle from its own on
+pub record ReachArgs (g : Ledger) (b : paper.Beat) (to : ℕ) : Type 0 where
+  pub near : Near b (lent.numberOf (ledgerOf g))
   pub low : g .owed ≤ 16
   pub later : g .at ≤ to
 
 -- moved on to cycle `to` or refused, and within the limit
-pub record Reached (g : Ledger) (I to : ℕ) (r : After) : Type 0 where
-  pub left : Left (named 11 (lent.failingTo I (ledgerOf g) (suc to))) (ledgerOf g) (lent.ledgerTo I (ledgerOf g) to) r
+pub record Reached (g : Ledger) (b : paper.Beat) (to : ℕ) (r : After) : Type 0 where
+  pub left : Left (named 11 (lent.failingTo b (ledgerOf g) (suc to))) (ledgerOf g) (lent.ledgerTo b (ledgerOf g) to) r
   pub low : r .ledger .owed ≤ 16
 
 -- a ledger as after the cycle before t
-pub record NextArgs (g : Ledger) (I t : ℕ) : Type 0 where
-  pub some : 0 < I
+pub record NextArgs (g : Ledger) (b : paper.Beat) (t : ℕ) : Type 0 where
+  pub near : Near b (lent.numberOf (ledgerOf g))
   pub low : g .owed ≤ 16
   pub next : suc (g .at) ≡ t
 
--- 19 and 20, and the ledger then: through the cycle t of an entry, or through idle time up to t
-unfoldable pub newOf : (entry counted : Bool) → (I : ℕ) → lent.Ledger → ℕ → lent.Ledger
-newOf true b I g t = lent.refreshedAt b (lent.ledgerTo I g t)
-newOf false b I g t = lent.ledgerTo I g t
+-- whether the next cycle counts and a due is there
+unfoldable pub dueNext : paper.Beat → lent.Ledger → Bool
+dueNext b g = not (stopped (g .level)) && onBeat b (suc (lent.numberOf g))
 
-unfoldable pub accountOf : (entry counted : Bool) → (I : ℕ) → lent.Ledger → ℕ → Option Refusal
-accountOf true b I g t = orElse (named 11 (lent.failingTo I g t)) (named 11 (lent.failingOf I (newOf true b I g t)))
-accountOf false b I g t = named 11 (lent.failingTo I g (suc t))
+-- 19 and 20, and the ledger then: through the cycle t of an entry, or through idle time up to t
+unfoldable pub newOf : (entry : Bool) → lent.Effect → paper.Beat → lent.Ledger → ℕ → lent.Ledger
+newOf true x b g t = lent.entered x b g t
+newOf false x b g t = lent.ledgerTo b g t
+
+unfoldable pub accountOf : (entry : Bool) → lent.Effect → paper.Beat → lent.Ledger → ℕ → Option Refusal
+accountOf true x b g t = orElse (named 11 (lent.failingTo b g t)) (named 11 (lent.failingOf b (newOf true x b g t)))
+accountOf false x b g t = named 11 (lent.failingTo b g (suc t))
 
 -- 13, then 5, as a number; 0 for neither
 unfoldable pub admitted : Card → lent.Ledger → ℕ → ℕ
 admitted card g t = cond (lent.ledgerGood card g) (cond (leb (g .at) t) 0 5) 13
 
-unfoldable pub askedOf : (entry counted : Bool) → Card → lent.Ledger → ℕ → Option Refusal
-askedOf entry counted card g t =
-    firstOf (unless (lent.ledgerGood card g) 13 ∷ unless (leb (g .at) t) 5 ∷ accountOf entry counted (interval card) g t ∷ [])
+unfoldable pub askedOf : (entry : Bool) → lent.Effect → Card → lent.Ledger → ℕ → Option Refusal
+askedOf entry x card g t =
+    firstOf (unless (lent.ledgerGood card g) 13 ∷ unless (leb (g .at) t) 5 ∷ accountOf entry x (beatOf card) g t ∷ [])

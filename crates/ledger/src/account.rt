@@ -1,14 +1,31 @@
-// The account over idle time in closed form, on plain numbers.
+// The account over idle time in closed form, on plain numbers: those of the counted cycles.
 ghost use mathlib.Core.Path.{_≡_};
-ghost use Prim.Native.Nat.{_<_, _≤_, min};
+ghost use Prim.Native.Nat.{_≤_, min};
+ghost use Rattle.rules.specs.Account as paper;
 ghost use Rattle.ledger.specs.Values.{overAt, lateAt, closedAt};
-ghost use Rattle.ledger.specs.Parts.{IdleArgs, IdleDone};
+ghost use Rattle.ledger.specs.Parts.{beatAs, Near, ClosedAs, IdleArgs, IdleDone};
 use card::greater;
 
-// Some cycles with no counted refresh: the ledger then, or the first cycle that fails, with its rule.
+// Dues at number `next` and every `span` after it.
+pub struct Beat {
+    pub next: u32,
+    pub span: u32,
+}
+
+// Some cycles with no counted refresh: the ledger then, or the first number that fails, with its rule.
 pub enum Idle {
     Stands(u8),
-    Breaks { rule: u8, cycle: u64 },
+    Breaks { rule: u8, number: u64 },
+}
+
+// The positive multiples of an interval.
+pub fn every(interval: u32) -> Beat
+    ensures { λ r. ⌜ beatAs r ≡ paper.every interval ⌝ }
+{
+    Beat {
+        next: interval,
+        span: interval,
+    }
 }
 
 fn lesser(a: u64, b: u64) -> u64
@@ -17,50 +34,73 @@ fn lesser(a: u64, b: u64) -> u64
     if a < b { a } else { b }
 }
 
-// The first cycle after `at` at which 19 fails.
-fn over_at(interval: u32, at: u32, owed: u8) -> u64
-    requires { ⌜ (0 < interval) × (owed ≤ 16) ⌝ }
-    ensures { λ r. ⌜ r ≡ overAt interval at owed ⌝ }
+// Whether a due is at number n.
+pub fn on_beat(beat: Beat, n: u32) -> bool
+    requires { ⌜ Near (beatAs beat) n ⌝ }
+    ensures { λ r. ⌜ r ≡ paper.onBeat (beatAs beat) n ⌝ }
 {
-    let step = interval as u64;
-    (at as u64 / step + (17 - owed) as u64) * step
+    let span = beat.span as u64;
+    let past = n as u64 + span - beat.next as u64;
+    (0 < past) & (past % span == 0)
 }
 
-// The first cycle after `at` at which 20 fails.
-fn late_at(interval: u32, at: u32, refreshed: u32) -> u64
-    ensures { λ r. ⌜ r ≡ lateAt interval at refreshed ⌝ }
+// How many are at numbers up to n.
+fn fallen(beat: Beat, n: u32) -> u64
+    requires { ⌜ Near (beatAs beat) n ⌝ }
+    ensures { λ r. ⌜ r ≡ paper.fallen (beatAs beat) n ⌝ }
 {
-    greater(at as u64 + 1, refreshed as u64 + 9 * (interval as u64) + 1)
+    let span = beat.span as u64;
+    (n as u64 + span - beat.next as u64) / span
+}
+
+// The first after it.
+fn next_after(beat: Beat, n: u32) -> u64
+    requires { ⌜ Near (beatAs beat) n ⌝ }
+    ensures { λ r. ⌜ r ≡ paper.nextAfter (beatAs beat) n ⌝ }
+{
+    beat.next as u64 + fallen(beat, n) * (beat.span as u64)
+}
+
+// The first number after n at which 19 fails.
+fn over_at(beat: Beat, n: u32, owed: u8) -> u64
+    requires { ⌜ Near (beatAs beat) n × (owed ≤ 16) ⌝ }
+    ensures { λ r. ⌜ r ≡ overAt (beatAs beat) n owed ⌝ }
+{
+    next_after(beat, n) + (16 - owed) as u64 * (beat.span as u64)
+}
+
+// The first number after n at which 20 fails.
+fn late_at(span: u32, n: u32, since: u32) -> u64
+    ensures { λ r. ⌜ r ≡ lateAt span n since ⌝ }
+{
+    greater(n as u64 + 1, since as u64 + 9 * (span as u64) + 1)
 }
 
 // The first at which one of them does.
-pub fn closed(interval: u32, at: u32, owed: u8, refreshed: u32) -> u64
-    requires { ⌜ (0 < interval) × (owed ≤ 16) ⌝ }
-    ensures { λ r. ⌜ r ≡ closedAt interval at owed refreshed ⌝ }
+pub fn closed(beat: Beat, n: u32, owed: u8, since: u32) -> u64
+    requires { ⌜ Near (beatAs beat) n × (owed ≤ 16) ⌝ }
+    ensures { λ r. ⌜ ClosedAs (closedAt (beatAs beat) n owed since) r ⌝ }
 {
-    lesser(
-        over_at(interval, at, owed),
-        late_at(interval, at, refreshed),
-    )
+    lesser(over_at(beat, n, owed), late_at(beat.span, n, since))
 }
 
-pub fn idle_to(interval: u32, at: u32, owed: u8, refreshed: u32, to: u32) -> Idle
-    requires { ⌜ IdleArgs interval at owed to ⌝ }
-    ensures { λ r. ⌜ IdleDone interval at owed refreshed to r ⌝ }
+pub fn idle_to(beat: Beat, n: u32, owed: u8, since: u32, to: u32) -> Idle
+    requires { ⌜ IdleArgs (beatAs beat) n owed to ⌝ }
+    ensures { λ r. ⌜ IdleDone (beatAs beat) n owed since to r ⌝ }
 {
-    let over = over_at(interval, at, owed);
-    let late = late_at(interval, at, refreshed);
+    let over = over_at(beat, n, owed);
+    let late = late_at(beat.span, n, since);
     if (to as u64) < lesser(over, late) {
-        return Idle::Stands(owed + (to / interval - at / interval) as u8);
+        return Idle::Stands(owed + (fallen(beat, to) - fallen(beat, n)) as u8);
     }
     if over <= late {
         return Idle::Breaks {
             rule: 19,
-            cycle: over,
+            number: over,
         };
     }
     Idle::Breaks {
         rule: 20,
-        cycle: late,
+        number: late,
     }
 }

@@ -1,24 +1,27 @@
 // What a lent ledger is asked, with a card: 13, 5, then the account.
 ghost use mathlib.Core.Path.{_≡_};
-ghost use Rattle.rules.specs.Lent.{moveRefusal, enterRefusal};
+ghost use Rattle.rules.specs.Lent.{moveRefusal, enterRefusal, movedOn};
 ghost use Rattle.rules.specs.Lent as lent;
-ghost use Rattle.rules.specs.Units as units;
+ghost use Rattle.rules.specs.Clock.{beatOf};
 ghost use Rattle.card.specs.Values.{cardOf};
-ghost use Rattle.ledger.specs.Values.{ledgerOf, Left, deadlineOf};
-ghost use Rattle.ledger.specs.Parts.{ReachArgs, admitted, accountOf, newOf, askedOf};
+ghost use Rattle.ledger.specs.Values.{ledgerOf, effectOf, Left, deadlineBy, deadlineOf};
+ghost use Rattle.ledger.specs.Parts.{beatAs, ReachArgs, admitted, accountOf, newOf, askedOf};
 use crate::After;
 use crate::Answer;
+use crate::Effect;
 use crate::Ledger;
 use crate::account;
+use crate::account::Beat;
 use crate::entering;
 use crate::moving;
 use card::Card;
+use pins::Level;
 
 // Whether 13 lets the ledger and its card pass.
 fn sound(ledger: Ledger, card: Card) -> bool
     ensures { λ r. ⌜ r ≡ lent.ledgerGood (cardOf card) (ledgerOf ledger) ⌝ }
 {
-    card::in_range(card) & (ledger.owed <= 16) & (ledger.refreshed <= ledger.at)
+    card::in_range(card) & (ledger.owed <= 16) & (ledger.since <= moving::number_of(ledger))
 }
 
 // 13, then 5: 0 where a ledger that comes with this card may be asked about this cycle.
@@ -34,19 +37,26 @@ fn admission(ledger: Ledger, card: Card, to: u32) -> u8
     0
 }
 
-// The account alone: an entry's own cycle, or idle time through a cycle.
-fn go_on(ledger: Ledger, interval: u32, t: u32, entry: bool, counted: bool) -> After
-    requires { ⌜ ReachArgs ledger interval t ⌝ }
-    ensures { λ r. ⌜ Left (accountOf entry counted interval (ledgerOf ledger) t) (ledgerOf ledger) (newOf entry counted interval (ledgerOf ledger) t) r ⌝ }
+// The dues of a card.
+fn beat_of(card: Card) -> Beat
+    ensures { λ r. ⌜ beatAs r ≡ beatOf (cardOf card) ⌝ }
 {
-    if entry {
-        return entering::enter(ledger, interval, t, counted);
-    }
-    moving::reach(ledger, interval, t)
+    account::every(card::interval(card))
 }
 
-fn asked(ledger: Ledger, card: Card, t: u32, entry: bool, counted: bool) -> After
-    ensures { λ r. ⌜ Left (askedOf entry counted (cardOf card) (ledgerOf ledger) t) (ledgerOf ledger) (newOf entry counted (units.interval (cardOf card)) (ledgerOf ledger) t) r ⌝ }
+// The account alone: an entry's own cycle, or idle time through a cycle.
+fn go_on(ledger: Ledger, beat: Beat, t: u32, entry: bool, effect: Effect) -> After
+    requires { ⌜ ReachArgs ledger (beatAs beat) t ⌝ }
+    ensures { λ r. ⌜ Left (accountOf entry (effectOf effect) (beatAs beat) (ledgerOf ledger) t) (ledgerOf ledger) (newOf entry (effectOf effect) (beatAs beat) (ledgerOf ledger) t) r ⌝ }
+{
+    if entry {
+        return entering::enter(ledger, beat, t, effect);
+    }
+    moving::reach(ledger, beat, t)
+}
+
+fn asked(ledger: Ledger, card: Card, t: u32, entry: bool, effect: Effect) -> After
+    ensures { λ r. ⌜ Left (askedOf entry (effectOf effect) (cardOf card) (ledgerOf ledger) t) (ledgerOf ledger) (newOf entry (effectOf effect) (beatOf (cardOf card)) (ledgerOf ledger) t) r ⌝ }
 {
     let n = admission(ledger, card, t);
     if n == 13 {
@@ -55,34 +65,53 @@ fn asked(ledger: Ledger, card: Card, t: u32, entry: bool, counted: bool) -> Afte
     if n == 5 {
         return moving::told(ledger, Answer::Earlier);
     }
-    go_on(ledger, card::interval(card), t, entry, counted)
+    go_on(ledger, beat_of(card), t, entry, effect)
 }
 
 // Moved on to a later cycle; the cycle it stands at changes nothing. Refused in this order: 13, 5, 11.
 pub fn moved(ledger: Ledger, card: Card, to: u32) -> After
-    ensures { λ r. ⌜ Left (moveRefusal (cardOf card) (ledgerOf ledger) to) (ledgerOf ledger) (lent.moved (cardOf card) (ledgerOf ledger) to) r ⌝ }
+    ensures { λ r. ⌜ Left (moveRefusal (cardOf card) (ledgerOf ledger) to) (ledgerOf ledger) (movedOn (cardOf card) (ledgerOf ledger) to) r ⌝ }
 {
-    asked(ledger, card, to, false, false)
+    asked(
+        ledger,
+        card,
+        to,
+        false,
+        Effect {
+            counted: false,
+            level: Level::Awake,
+        },
+    )
 }
 
-// An entry's own cycle: what is due, a counted refresh if it is one, then 19 and 20. Refused in this order: 13, 5, 11 below the stamp, 11 at it.
-pub fn entered(ledger: Ledger, card: Card, stamp: u32, counted: bool) -> After
-    ensures { λ r. ⌜ Left (enterRefusal counted (cardOf card) (ledgerOf ledger) stamp) (ledgerOf ledger) (lent.entered counted (cardOf card) (ledgerOf ledger) stamp) r ⌝ }
+// An entry's own cycle: what is due, a counted refresh if it is one, then 19 and 20; and the level from there on. Refused in this order: 13, 5, 11 below
+// the stamp, 11 at it.
+pub fn entered(ledger: Ledger, card: Card, stamp: u32, effect: Effect) -> After
+    ensures { λ r. ⌜ Left (enterRefusal (effectOf effect) (cardOf card) (ledgerOf ledger) stamp) (ledgerOf ledger) (lent.entered (effectOf effect) (beatOf (cardOf card)) (ledgerOf ledger) stamp) r ⌝ }
 {
-    asked(ledger, card, stamp, true, counted)
+    asked(ledger, card, stamp, true, effect)
 }
 
-// The first cycle at which 19 or 20 fails with no counted refresh; 0 where 13 refuses the ledger or its card.
+// Of a ledger that 13 lets pass, and whose cycles count.
+fn deadline_in(ledger: Ledger, beat: Beat) -> u64
+    requires { ⌜ ReachArgs ledger (beatAs beat) (ledger .at) ⌝ }
+    ensures { λ r. ⌜ r ≡ deadlineBy (beatAs beat) ledger ⌝ }
+{
+    let n = moving::number_of(ledger);
+    ledger.at as u64 + (account::closed(beat, n, ledger.owed, ledger.since) - n as u64)
+}
+
+// The first cycle at which 19 or 20 fails with no counted refresh; 0 where 13 refuses the ledger or its card, and where the cycles of its level are not
+// counted.
 pub fn deadline(ledger: Ledger, card: Card) -> u64
     ensures { λ r. ⌜ r ≡ deadlineOf card ledger ⌝ }
 {
     if !sound(ledger, card) {
         return 0;
     }
-    account::closed(
-        card::interval(card),
-        ledger.at,
-        ledger.owed,
-        ledger.refreshed,
-    )
+    let level = ledger.level;
+    if moving::stopped(level) {
+        return 0;
+    }
+    deadline_in(ledger, beat_of(card))
 }

@@ -1,9 +1,9 @@
 // The refresh account by value, and its one function behind `&mut`.
-ghost use Rattle.rules.specs.Lent.{moveRefusal};
-ghost use Rattle.rules.specs.Lent as lent;
+ghost use Rattle.rules.specs.Lent.{moveRefusal, movedOn};
 ghost use Rattle.card.specs.Values.{cardOf};
 ghost use Rattle.ledger.specs.Values.{ledgerOf, Left, afterAs};
 use card::Card;
+use pins::Level;
 
 mod account;
 mod calls;
@@ -13,12 +13,22 @@ mod moving;
 pub use calls::deadline;
 pub use calls::entered;
 pub use calls::moved;
+pub use moving::number_of;
 
-// The ledger as after cycle `at`. `owed` is the number with 8 added: 0 to 16 for -8 to 8. `refreshed` is the cycle of the last counted refresh, or 0.
+// The ledger as after cycle `at`. `owed` is the number with 8 added: 0 to 16 for -8 to 8. `skipped` of the cycles up to `at` were not counted; counted
+// cycles have numbers, and the gap counts from number `since`, that of the last counted refresh, or 0. The level says whether the cycles after `at` count.
 pub struct Ledger {
     pub at: u32,
     pub owed: u8,
-    pub refreshed: u32,
+    pub since: u32,
+    pub skipped: u32,
+    pub level: Level,
+}
+
+// What an entry does to a ledger: whether it is a counted refresh, and the level from there on.
+pub struct Effect {
+    pub counted: bool,
+    pub level: Level,
 }
 
 // What a caller is told: 13, 5, or 11 with the rule and the first cycle that fails.
@@ -37,7 +47,7 @@ pub struct After {
 
 // `moved`, of a ledger that is lent.
 pub fn move_on(ledger: &mut Ledger, card: Card, to: u32) -> Answer
-    ensures { λ r. ⌜ Left (moveRefusal (cardOf card) (ledgerOf (now (ledger .entry))) to) (ledgerOf (now (ledger .entry))) (lent.moved (cardOf card) (ledgerOf (now (ledger .entry))) to) (afterAs (now (ledger .exit)) r) ⌝ }
+    ensures { λ r. ⌜ Left (moveRefusal (cardOf card) (ledgerOf (now (ledger .entry))) to) (ledgerOf (now (ledger .entry))) (movedOn (cardOf card) (ledgerOf (now (ledger .entry))) to) (afterAs (now (ledger .exit)) r) ⌝ }
 {
     let after = moved(*ledger, card, to);
     *ledger = after.ledger;

@@ -7,10 +7,12 @@ use mathlib.Core.List.{[], _∷_, _++_}
 use native.Mathlib.Omega.{arith}
 use lib.Dec.{leb, ltb, eqb}
 use lib.ListN.{length, getD, List·getD-eq-default}
-use borrow.Author.Tests.{eqb-true, leb-true, le-leb, lt-leb}
+use borrow.Author.Tests.{eq-eqb, eqb-true, leb-true, le-leb, lt-leb}
 use Rattle.rules.specs.Commands.{Command, Kind, NOP, MRW, MRR, REFPB, REFAB, ACT, RD, WR, PRE, PREA, RESERVED, code, is, kindOf, carries, bare, bankOf, apOf}
 use Rattle.rules.specs.Past.{bankAt}
-use Rattle.rules.specs.Pins.{kindAt, ofKind}
+use Rattle.rules.specs.Bits.{bits, on}
+use Rattle.rules.specs.Pins.{kindAt, ofKind, decode}
+use Rattle.rules.specs.Levels.{plain, awake, stays, risesFrom, readAt, readPins}
 use Rattle.rules.specs.Entries as entries
 use Rattle.rules.specs.Lines.{nameOf, showsBank, decimal}
 use Rattle.rules.proofs.Tests.{both-true, lt-cases, nowhere}
@@ -19,8 +21,7 @@ use Rattle.pins.specs.Counter.{counterOn}
 use Rattle.pins.proofs.Codes.{by-edge}
 use Rattle.pins.proofs.Places.{gathers}
 use Rattle.lines.specs.Parts.{namePart, bankPart}
-use Rattle.lines.specs.Quick.{tails, noTail, tailAt, TailFits, tailPart, TailGood}
-use Rattle.lines.specs.Runs.{commandOn}
+use Rattle.lines.specs.Quick.{tails, noTail, tailAt, TailFits, tailPart, TailGood, TailOn}
 use Rattle.lines.proofs.Decimals.{one-digit}
 
 -- ---- the table of tails
@@ -61,7 +62,7 @@ bank-digit b h = let e : b % 10 ≡ b = omega arith in rw e at (one-digit b (ome
 
 -- a tail with this mark says this command, which leaves the round counter as it is
 abbrev Says : (k mark : ℕ) → Command → Type 0
-Says k mark c = ((n : ℕ) → tailPart (tailAt k) mark ≡ namePart c ++ bankPart c n ++ (10 ∷ [])) × ((n : ℕ) → counterOn c n ≡ n)
+Says k mark c = ((n : ℕ) → tailPart (tailAt k) mark ≡ namePart c ++ bankPart c n ++ (10 ∷ [])) × ((n : ℕ) → counterOn c stays n ≡ n)
 
 no-key : (k : ℕ) → noTail ≡ tailAt k → 0 < getD (tailAt k) 0 0 → ⊥
 no-key k e h = nowhere (rw (← e) at h)
@@ -75,7 +76,7 @@ late k a h = no-key (2 * k + a) (beyond (2 * k + a) (omega arith))
 -- by the kind and auto-precharge
 of-kind : (k : Kind) (p a : ℕ) → a ≡ p / 1024 % 2 → 0 < getD (tailAt (2 * code k + a)) 0 0
     → (10 ≤ 2 * code k + a) × (2 * code k + a < 18) × Says (2 * code k + a) (48 + p / 128 % 8) (entries.commandOf (ofKind k p))
-unfolding code tailAt ofKind entries.commandOf nameOf showsBank bankAt bankOf apOf is kindOf carries bare counterOn
+unfolding code tailAt ofKind entries.commandOf nameOf showsBank bankAt bankOf apOf is kindOf carries bare counterOn risesFrom
 of-kind NOP p a e s = absurd (early 0 a (omega arith) (omega arith) s)
 of-kind MRW p a e s = absurd (early 1 a (omega arith) (omega arith) s)
 of-kind MRR p a e s = absurd (early 2 a (omega arith) (omega arith) s)
@@ -99,8 +100,16 @@ of-kind RESERVED p a e s = absurd (late 10 a (omega arith) s)
 abbrev keyOn : ℕ → ℕ
 keyOn p = 2 * code (kindAt (p % 1024)) + p / 1024 % 2
 
-pub quick-tail : (p : ℕ) → p / 1048576 ≡ 2 → 0 < getD (tailAt (keyOn p)) 0 0 → TailGood (commandOn p) (tailAt (keyOn p)) (48 + p / 128 % 8)
+-- awake, clock-enable is high and nothing stands above it
+awake-plain : (p : ℕ) → p / 1048576 ≡ 2 → (sleeps : Bool) → readPins sleeps awake p ≡ plain (decode p)
+unfolding readPins readAt on bits
+awake-plain p high false = refl
+awake-plain p high true = rw (eq-eqb (p / 4194304) 0 (omega arith), eq-eqb (p / 2097152 % 2) 1 (omega arith))
+
+pub quick-tail : (p : ℕ) → p / 1048576 ≡ 2 → 0 < getD (tailAt (keyOn p)) 0 0 → TailOn p (tailAt (keyOn p)) (48 + p / 128 % 8)
 quick-tail p high s =
     let said = of-kind (kindAt (p % 1024)) p (p / 1024 % 2) refl s in
+    let good : TailGood (entries.commandOf (decode p)) (tailAt (keyOn p)) (48 + p / 128 % 8) =
     rw (by-edge p (omega arith) (λ (o : p / 1048576 % 2 ≡ 1). absurd (omega arith)))
-    (record { fits = tail-fits (keyOn p) (said .0) (said .1); text = said .2 .0; still = said .2 .1 })
+    (record { fits = tail-fits (keyOn p) (said .0) (said .1); text = said .2 .0; still = said .2 .1 }) in
+    record { reads = awake-plain p high; good = good }

@@ -1,7 +1,7 @@
 -- A line from parts that are put over one another, and the lines of entries that stand one behind the other, one more at a time.
 use Prim.Native.Nat.{ℕ, zero, suc, _+_, _*_, _-_, _%_, _^_, _≤_, _<_}
 use mathlib.Core.Path.{_≡_, refl, sym, ap, _∙_}
-use mathlib.Core.Bool.{Bool, true, false, _||_}
+use mathlib.Core.Bool.{Bool, true, false, cond, _||_}
 use mathlib.Core.List.{List, _++_, append-assoc, append-nil}
 use native.Mathlib.Numerals.{add-one}
 use native.Mathlib.Omega.{arith}
@@ -10,16 +10,19 @@ use lib.ListN.{length, getD, take, drop, set, length-append, length-drop, length
 use lib.Seq.{drop-drop}
 use borrow.Author.Tests.{leb-false, eqb-false}
 use Rattle.rules.specs.Commands.{Command}
-use Rattle.rules.specs.Lines.{entryLine}
+use Rattle.rules.specs.Pins.{decode}
+use Rattle.rules.specs.Levels.{Level, awake, Move, sameLevel, levelAfter, Read, plain, readPins}
+use Rattle.rules.specs.Entries.{commandOf, recordedAs, moveOf}
 use Rattle.pins.specs.declared.Front.{Front}
 use Rattle.pins.specs.Counter.{counterOn}
 use Rattle.pins.specs.Fronts.{frontOf}
 use Rattle.pins.proofs.Fronts.{front-first}
+use Rattle.pins.proofs.Asleep.{awake-only}
 use Rattle.lines.specs.declared.runs.Next.{Next}
 use Rattle.lines.specs.declared.stamps.Lead.{Lead}
 use Rattle.lines.specs.Written.{Put}
-use Rattle.lines.specs.Quick.{lastFour, LeadGood, TailFits, tailPart, TailGood}
-use Rattle.lines.specs.Runs.{commandOn, commandAt, lineAt, linesAt, roundAt, Added}
+use Rattle.lines.specs.Quick.{lastFour, highAt, LeadGood, TailFits, tailPart, TailOn}
+use Rattle.lines.specs.Runs.{Standing, standing, standingAfter, standingOf, lineOn, lineAt, nextAt, linesAt, standsAt, Added}
 use Rattle.lines.proofs.Puts.{then, over, under, within, put-size}
 use Rattle.lines.proofs.Leading.{lead-digits}
 use Rattle.lines.proofs.Joined.{quick-joined}
@@ -60,57 +63,87 @@ neither false b e = (refl, e)
 neither true b e = absurd (let z : _≡_ {A = ℕ} 0 1 = cc in omega arith)
 
 -- what the test tells that lets a line be put by its parts
-pub quick-test : (lead : Lead) (stamp rest : ℕ) (tail : List ℕ) → LeadGood lead → (rest + lead .base) % 2 ^ 32 ≡ stamp → (leb 10000 rest || eqb (getD tail 0 0) 0) ≡ false
+pub quick-test : (lead : Lead) (stamp rest : ℕ) (tail : List ℕ) → LeadGood lead → (rest + lead .base) % 2 ^ 32 ≡ stamp
+    → (leb 10000 rest || eqb (getD tail 0 0) 0) ≡ false
     → (rest < 10000) × (0 < getD tail 0 0) × (stamp ≡ lead .base + rest)
 quick-test lead stamp rest tail good e t =
-    let (l, n) = neither (leb 10000 rest) (eqb (getD tail 0 0) 0) t in
-    let h = leb-false 10000 rest l in
+    let (m, n) = neither (leb 10000 rest) (eqb (getD tail 0 0) 0) t in
+    let h = leb-false 10000 rest m in
     let s = eqb-false (getD tail 0 0) 0 n in
     let u = good .upto in
     (h, omega arith, omega arith)
 
-pub quick-line : (lead : Lead) (rest n : ℕ) (c : Command) {tail : List ℕ} {mark : ℕ} → LeadGood lead → rest < 10000 → TailGood c tail mark
-    → take (lead .size) (lead .text) ++ lastFour rest ++ tailPart tail mark ≡ entryLine (record { stamp = lead .base + rest; cmd = c }) n
-quick-line lead rest n c good h t = rw (lead-digits lead rest good h) (quick-joined (record { stamp = lead .base + rest; cmd = c }) n _ (t .text n))
+-- awake alone pins have a tail
+pub high-awake : (l : Level) (high : ℕ) → high ≡ highAt l → high < 4096 → (l ≡ awake) × (high ≡ 2)
+unfolding highAt
+high-awake l high e h = go (sameLevel awake l) refl e
+  where
+    go : (b : Bool) → sameLevel awake l ≡ b → high ≡ cond b 2 4096 → (l ≡ awake) × (high ≡ 2)
+    go true w e = (awake-only l w, e)
+    go false w e = absurd (omega arith)
+
+-- ---- what it is, and what stands behind it
+pub after-line : (r : Read) (l : Level) (n : ℕ) {l′ : Level} {n′ : ℕ} {c : Command} {m : Move} → c ≡ recordedAs r → m ≡ moveOf r → l′ ≡ levelAfter m l → n′ ≡ counterOn c m n
+    → standing l′ n′ ≡ standingAfter r (standing l n)
+unfolding standingAfter
+after-line r l n a b c d = rw (c, d, a, b)
+
+module _ (sleeps : Bool) (l : Level) (p n : ℕ) {tail : List ℕ} {mark : ℕ} (up : l ≡ awake) (t : TailOn p tail mark) where
+  quick-read : readPins sleeps l p ≡ plain (decode p)
+  quick-read = rw up (t .reads sleeps)
+
+  pub quick-line : (lead : Lead) (rest : ℕ) → LeadGood lead → rest < 10000
+      → take (lead .size) (lead .text) ++ lastFour rest ++ tailPart tail mark ≡ lineOn sleeps (lead .base + rest) p (standing l n)
+  unfolding recordedAs
+  quick-line lead rest good h =
+      rw (lead-digits lead rest good h, quick-read) (quick-joined (lead .base + rest) (commandOf (decode p)) n _ (t .good .text n))
+
+  pub quick-after : standing l n ≡ standingAfter (readPins sleeps l p) (standing l n)
+  unfolding standingAfter recordedAs moveOf levelAfter
+  quick-after = rw (quick-read, t .good .still n)
 
 -- ---- many
-pub lines-more : (i n : ℕ) (bs : List ℕ) → linesAt i n bs ++ lineAt (roundAt i n bs) (drop (10 * i) bs) ≡ linesAt (suc i) n bs
-unfolding linesAt roundAt
-lines-more zero n bs = sym (append-nil (lineAt n bs))
-lines-more (suc i) n bs =
-    let m = counterOn (commandAt bs) n in
-    let e : 10 * suc i ≡ 10 + 10 * i = omega arith in
-    append-assoc (lineAt n bs) (linesAt i m (drop 10 bs)) _
-    ∙ ap (λ (l : List ℕ). lineAt n bs ++ l) (rw (e, ← drop-drop (10 * i) 10 bs) (lines-more i m (drop 10 bs)))
+module _ (sleeps : Bool) where
+  lines-more : (i : ℕ) (x : Standing) (bs : List ℕ) → linesAt sleeps i x bs ++ lineAt sleeps (standsAt sleeps i x bs) (drop (10 * i) bs) ≡ linesAt sleeps (suc i) x bs
+  unfolding linesAt standsAt
+  lines-more zero x bs = sym (append-nil (lineAt sleeps x bs))
+  lines-more (suc i) x bs =
+      let y = nextAt sleeps x bs in
+      let e : 10 * suc i ≡ 10 + 10 * i = omega arith in
+      append-assoc (lineAt sleeps x bs) (linesAt sleeps i y (drop 10 bs)) _
+      ∙ ap (λ (l : List ℕ). lineAt sleeps x bs ++ l) (rw (e, ← drop-drop (10 * i) 10 bs) (lines-more i y (drop 10 bs)))
 
-pub round-more : (i n : ℕ) (bs : List ℕ) → counterOn (commandAt (drop (10 * i) bs)) (roundAt i n bs) ≡ roundAt (suc i) n bs
-unfolding roundAt
-round-more zero n bs = refl
-round-more (suc i) n bs =
-    let m = counterOn (commandAt bs) n in
-    let e : 10 * suc i ≡ 10 + 10 * i = omega arith in
-    rw (e, ← drop-drop (10 * i) 10 bs) (round-more i m (drop 10 bs))
+  stands-more : (i : ℕ) (x : Standing) (bs : List ℕ) → nextAt sleeps (standsAt sleeps i x bs) (drop (10 * i) bs) ≡ standsAt sleeps (suc i) x bs
+  unfolding standsAt
+  stands-more zero x bs = refl
+  stands-more (suc i) x bs =
+      let e : 10 * suc i ≡ 10 + 10 * i = omega arith in
+      rw (e, ← drop-drop (10 * i) 10 bs) (stands-more i (nextAt sleeps x bs) (drop 10 bs))
 
-module _ (i n : ℕ) (bs : List ℕ) (f : Front) (read : f ≡ frontOf (take 10 (drop (10 * i) bs))) (room : 10 * i + 10 ≤ length bs) where
-  there : f ≡ frontOf (drop (10 * i) bs)
-  there = read ∙ front-first (drop (10 * i) bs) (rw length-drop (omega arith))
+  module _ (i : ℕ) (s : Standing) (bs : List ℕ) (f : Front) (read : f ≡ frontOf (take 10 (drop (10 * i) bs))) (room : 10 * i + 10 ≤ length bs) where
+    there : f ≡ frontOf (drop (10 * i) bs)
+    there = read ∙ front-first (drop (10 * i) bs) (rw length-drop (omega arith))
 
-  line-there : (m : ℕ) → entryLine (record { stamp = f .stamp; cmd = commandOn (f .pins) }) m ≡ lineAt m (drop (10 * i) bs)
-  unfolding lineAt
-  line-there m = ap (λ (x : Front). entryLine (record { stamp = x .stamp; cmd = commandOn (x .pins) }) m) there
+    line-there : (x : Standing) → lineOn sleeps (f .stamp) (f .pins) x ≡ lineAt sleeps x (drop (10 * i) bs)
+    unfolding lineAt
+    line-there x = ap (λ (z : Front). lineOn sleeps (z .stamp) (z .pins) x) there
 
-  pub lines-next : {x y : Next} {old mid new : List ℕ} → Put 0 (linesAt i n bs) old mid (x .at) → x .counter ≡ roundAt i n bs → Added x (f .stamp) (f .pins) mid new y
-      → Put 0 (linesAt (i + 1) n bs) old new (y .at) × (y .counter ≡ roundAt (i + 1) n bs)
-  lines-next {x} {y} {old} {mid} {new} p c a =
-      let line : Put (x .at) (lineAt (roundAt i n bs) (drop (10 * i) bs)) mid new (y .at) = rw (line-there (x .counter), c) at (a .line) in (
-        rw (add-one i, ← lines-more i n bs) (then (omega arith) p line),
-        a .counter ∙ rw (add-one i, ← round-more i n bs, c, ap (λ (z : Front). z .pins) there),
-      )
+    next-there : (x : Standing) → standingAfter (readPins sleeps (x .level) (f .pins)) x ≡ nextAt sleeps x (drop (10 * i) bs)
+    unfolding nextAt
+    next-there x = ap (λ (z : Front). standingAfter (readPins sleeps (x .level) (z .pins)) x) there
 
-pub lines-none : (n : ℕ) (bs old : List ℕ) → Put 0 (linesAt 0 n bs) old old 0
-unfolding linesAt
-lines-none n bs old = record { behind = omega arith; memory = refl }
+    pub lines-next : {x y : Next} {old mid new : List ℕ} → Put 0 (linesAt sleeps i s bs) old mid (x .at) → standingOf x ≡ standsAt sleeps i s bs → Added sleeps x (f .stamp) (f .pins) mid new y
+        → Put 0 (linesAt sleeps (i + 1) s bs) old new (y .at) × (standingOf y ≡ standsAt sleeps (i + 1) s bs)
+    lines-next {x} {y} {old} {mid} {new} p c a =
+        let line : Put (x .at) (lineAt sleeps (standsAt sleeps i s bs) (drop (10 * i) bs)) mid new (y .at) = rw (line-there (standingOf x), c) at (a .line) in (
+          rw (add-one i, ← lines-more i s bs) (then (omega arith) p line),
+          a .stands ∙ next-there (standingOf x) ∙ rw (add-one i, ← stands-more i s bs, c),
+        )
 
-pub round-none : (n : ℕ) (bs : List ℕ) → n ≡ roundAt 0 n bs
-unfolding roundAt
-round-none n bs = refl
+  pub lines-none : (x : Standing) (bs old : List ℕ) → Put 0 (linesAt sleeps 0 x bs) old old 0
+  unfolding linesAt
+  lines-none x bs old = record { behind = omega arith; memory = refl }
+
+  pub stands-none : (x : Standing) (bs : List ℕ) → x ≡ standsAt sleeps 0 x bs
+  unfolding standsAt
+  stands-none x bs = refl

@@ -1,11 +1,14 @@
 -- The parts of a line that is written without decoding its command.
 use Prim.Native.Nat.{ℕ, _+_, _*_, _-_, _/_, _%_, _≤_, _<_}
 use mathlib.Core.Path.{_≡_}
-use mathlib.Core.Bool.{cond}
+use mathlib.Core.Bool.{Bool, cond}
 use mathlib.Core.List.{List, [], _∷_, _++_}
 use lib.Dec.{leb}
 use lib.ListN.{length, getD, take, drop, set}
 use Rattle.rules.specs.Commands.{Command}
+use Rattle.rules.specs.Pins.{decode}
+use Rattle.rules.specs.Levels.{Level, awake, sameLevel, stays, plain, readPins}
+use Rattle.rules.specs.Entries.{commandOf}
 use Rattle.rules.specs.Lines.{decimal}
 use Rattle.pins.specs.Counter.{counterOn}
 use Rattle.lines.specs.Parts.{namePart, bankPart}
@@ -64,4 +67,13 @@ tailPart tail mark = drop (8 - getD tail 0 0) (set tail 6 mark)
 pub record TailGood (c : Command) (tail : List ℕ) (mark : ℕ) : Type 0 where
   pub fits : TailFits tail
   pub text : (counter : ℕ) → tailPart tail mark ≡ namePart c ++ bankPart c counter ++ (10 ∷ [])
-  pub still : (counter : ℕ) → counterOn c counter ≡ counter
+  pub still : (counter : ℕ) → counterOn c stays counter ≡ counter
+
+-- what the pins from CS_n up must be for a tail: clock enable high and CS_n low, awake; no pins have any other one
+unfoldable pub highAt : Level → ℕ
+highAt l = cond (sameLevel awake l) 2 4096
+
+-- it is that of the command on the pins, and awake they are read as that command
+pub record TailOn (p : ℕ) (tail : List ℕ) (mark : ℕ) : Type 0 where
+  pub reads : (sleeps : Bool) → readPins sleeps awake p ≡ plain (decode p)
+  pub good : TailGood (commandOf (decode p)) tail mark

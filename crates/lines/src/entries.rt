@@ -40,7 +40,7 @@ fn put_command(out: &mut [u8], at: usize, command: Command, counter: u8) -> usiz
 
 pub fn put_line(out: &mut [u8], at: usize, stamp: u32, command: Command, counter: u8) -> usize
     requires { ⌜ at + 64 ≤ length (now out) ⌝ }
-    ensures memory { λ r. ⌜ Put at (entryLine (record { stamp = stamp; cmd = commandOf command }) counter) (now (out .entry)) (now (out .exit)) r ⌝ }
+    ensures memory { λ r. ⌜ Put at (entryLine stamp (commandOf command) counter) (now (out .entry)) (now (out .exit)) r ⌝ }
     ensures small { λ r. ⌜ r ≤ at + 24 ⌝ }
 {
     let stamped = put_number(out, at, stamp as u64);

@@ -3,9 +3,9 @@ ghost use mathlib.Core.Path.{_≡_};
 ghost use mathlib.Core.List.{_++_};
 ghost use Prim.Native.Nat.{_+_, _-_, _/_, _≤_, min};
 ghost use lib.ListN.{length, take};
-ghost use Rattle.pins.specs.Values.{commandOf};
+ghost use Rattle.pins.specs.Values.{levelOf};
 ghost use Rattle.lines.specs.Written.{Lined, Put};
-ghost use Rattle.lines.specs.Runs.{commandOn, linesAt, lineCount, Added};
+ghost use Rattle.lines.specs.Runs.{standing, linesAt, lineCount, HighGood, Added};
 ghost use Rattle.lines.specs.Quick.{LeadGood, PairsGood, TailFits, tailPart};
 use crate::entries::put_line;
 use crate::stamps::Lead;
@@ -14,27 +14,18 @@ use crate::stamps::last_four;
 use crate::stamps::lead_of;
 use crate::stamps::renewed;
 use crate::tails::bank_digit;
+use crate::tails::high_of;
 use crate::tails::tail_on;
 use crate::text::put_text;
-use pins::Command;
-use pins::Decoded;
+use pins::Level;
 
-// What is kept from line to line: the place of the next, the round counter, and the first digits of a stamp.
+// What is kept from line to line: the place of the next, the level, with what the pins of a tail are there, the round counter, and the first digits of a stamp.
 pub struct Next {
     pub at: usize,
+    pub level: Level,
+    pub high: u32,
     pub counter: u8,
     pub lead: Lead,
-}
-
-// Pins that are no command are taken for NOP.
-fn command_on(pins: u32) -> Command
-    ensures { λ r. ⌜ commandOf r ≡ commandOn pins ⌝ }
-{
-    match pins::decode(pins) {
-        Decoded::Good(command) => command,
-        Decoded::WrongBits => Command::Nop,
-        Decoded::Reserved => Command::Nop,
-    }
 }
 
 // Each part is put over what the part before it has no use for: the first digits, the end of the line with this mark, and between them the last four digits.
@@ -53,37 +44,53 @@ fn put_quick(out: &mut [u8], at: usize, lead: Lead, four: [u8; 4], tail: [u8; 8]
     end
 }
 
-// Any entry, by its command.
-fn put_plain(out: &mut [u8], next: Next, stamp: u32, pins: u32) -> Next
+// Any entry, by what it is recorded as.
+fn put_plain(out: &mut [u8], next: Next, sleeps: bool, stamp: u32, pins: u32) -> Next
     requires { ⌜ (next .at + 64 ≤ length (now out)) × LeadGood (next .lead) ⌝ }
-    ensures { λ r. ⌜ Added next stamp pins (now (out .entry)) (now (out .exit)) r ⌝ }
+    ensures { λ r. ⌜ Added sleeps next stamp pins (now (out .entry)) (now (out .exit)) r ⌝ }
 {
-    let command = command_on(pins);
+    let level = next.level;
     let counter = next.counter;
     let lead = next.lead;
+    let read = pins::read_pins(sleeps, level, pins);
+    let command = pins::recorded(read);
+    let moved = pins::move_of(read);
+    let then = pins::level_after(moved, level);
     let end = put_line(out, next.at, stamp, command, counter);
     Next {
         at: end,
-        counter: pins::counter_after(counter, command),
+        level: then,
+        high: high_of(then),
+        counter: pins::counter_after(counter, command, moved),
         lead: renewed(lead, stamp),
     }
 }
 
-// A command that has a tail leaves the round counter as it is.
-fn put_entry(out: &mut [u8], next: Next, stamp: u32, pins: u32, pairs: &[u8; 200]) -> Next
-    requires { ⌜ (next .at + 64 ≤ length (now out)) × LeadGood (next .lead) × PairsGood (now pairs) ⌝ }
-    ensures { λ r. ⌜ Added next stamp pins (now (out .entry)) (now (out .exit)) r ⌝ }
+// A command that has a tail leaves the level and the round counter as they are.
+fn put_entry(
+    out: &mut [u8],
+    next: Next,
+    sleeps: bool,
+    stamp: u32,
+    pins: u32,
+    pairs: &[u8; 200],
+) -> Next
+    requires { ⌜ (next .at + 64 ≤ length (now out)) × LeadGood (next .lead) × PairsGood (now pairs) × HighGood next ⌝ }
+    ensures { λ r. ⌜ Added sleeps next stamp pins (now (out .entry)) (now (out .exit)) r ⌝ }
 {
     let lead = next.lead;
     let rest = std::num::wrapping_sub_u32(stamp, lead.base);
-    let tail = tail_on(pins);
+    let tail = tail_on(pins, next.high);
     if (10000 <= rest) | (tail[0] == 0) {
-        return put_plain(out, next, stamp, pins);
+        return put_plain(out, next, sleeps, stamp, pins);
     }
     let four = last_four(rest, pairs);
     let end = put_quick(out, next.at, lead, four, tail, bank_digit(pins));
+    let level = next.level;
     Next {
         at: end,
+        level: level,
+        high: next.high,
         counter: next.counter,
         lead: lead,
     }
@@ -108,15 +115,24 @@ fn least(x: usize, y: usize) -> usize
     y
 }
 
-// The lines of so many entries of ten bytes each, one behind the other, as they were taken from this round counter on: as many of them as there are in `bytes`
-// and as there is room for, 24 bytes each and 64 for the last.
-pub fn entry_lines(out: &mut [u8], bytes: &[u8], count: usize, counter: u8) -> usize
-    ensures { λ r. ⌜ Lined (linesAt (lineCount count (length (now (bytes .entry))) (length (now (out .entry)))) counter (now (bytes .entry))) (now (out .entry)) (now (out .exit)) r ⌝ }
+// The lines of so many entries of ten bytes each, one behind the other, as they were taken from this level and this round counter on, where the card has low
+// clock-enable (`sleeps`) or has not: as many of them as there are in `bytes` and as there is room for, 24 bytes each and 64 for the last.
+pub fn entry_lines(
+    out: &mut [u8],
+    bytes: &[u8],
+    count: usize,
+    sleeps: bool,
+    level: Level,
+    counter: u8,
+) -> usize
+    ensures { λ r. ⌜ Lined (linesAt sleeps (lineCount count (length (now (bytes .entry))) (length (now (out .entry)))) (standing (levelOf level) counter) (now (bytes .entry))) (now (out .entry)) (now (out .exit)) r ⌝ }
 {
     let n = least(count, least(bytes.len() / 10, room_for(out.len())));
     let pairs = PAIRS;
     let mut next = Next {
         at: 0,
+        level: level,
+        high: high_of(level),
         counter: counter,
         lead: lead_of(1),
     };
@@ -126,7 +142,7 @@ pub fn entry_lines(out: &mut [u8], bytes: &[u8], count: usize, counter: u8) -> u
         let at = 10 * i;
         let end = at + 10;
         let front = pins::entry_at(&bytes[at..end], 0);
-        next = put_entry(out, next, front.stamp, front.pins, &pairs);
+        next = put_entry(out, next, sleeps, front.stamp, front.pins, &pairs);
         i += 1;
     }
     next.at

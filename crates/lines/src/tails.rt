@@ -4,8 +4,9 @@ ghost use Prim.Native.Nat.{_+_, _*_, _/_, _%_, _<_};
 ghost use lib.ListN.{getD};
 ghost use Rattle.rules.specs.Commands.{code};
 ghost use Rattle.rules.specs.Pins.{kindAt};
-ghost use Rattle.lines.specs.Quick.{tailAt, TailGood};
-ghost use Rattle.lines.specs.Runs.{commandOn};
+ghost use Rattle.pins.specs.Values.{levelOf};
+ghost use Rattle.lines.specs.Quick.{highAt, tailAt, TailOn};
+use pins::Level;
 
 pub fn bank_digit(pins: u32) -> u8
     ensures { λ r. ⌜ r ≡ 48 + pins / 128 % 8 ⌝ }
@@ -40,11 +41,18 @@ fn tail_at(key: u32) -> [u8; 8]
     }
 }
 
-// With clock enable high and CS_n low. None where it is another command, or none.
-pub fn tail_on(pins: u32) -> [u8; 8]
-    ensures { λ r. ⌜ (0 < getD r 0 0 → TailGood (commandOn pins) r (48 + pins / 128 % 8)) ⌝ }
+// What the pins from CS_n up are where there is a tail.
+pub fn high_of(level: Level) -> u32
+    ensures { λ r. ⌜ r ≡ highAt (levelOf level) ⌝ }
 {
-    if pins / 1048576 != 2 {
+    if pins::is_awake(level) { 2 } else { 4096 }
+}
+
+// None where they are others, or where it is another command, or none.
+pub fn tail_on(pins: u32, high: u32) -> [u8; 8]
+    ensures { λ r. ⌜ (0 < getD r 0 0 → (pins / 1048576 ≡ high) × (high < 4096) × (high ≡ 2 → TailOn pins r (48 + pins / 128 % 8))) ⌝ }
+{
+    if pins / 1048576 != high {
         return NONE;
     }
     tail_at(key_on(pins))

@@ -1,4 +1,5 @@
 // The line of the verdict.
+ghost use mathlib.Core.List.{[], _∷_};
 ghost use Prim.Native.Nat.{_+_, _≤_};
 ghost use lib.IntN.{subℕ};
 ghost use lib.ListN.{length};
@@ -25,7 +26,7 @@ fn put_owed(out: &mut [u8], at: usize, owed: u8) -> usize
 // The line of a file that is accepted, at the start of `out`, and how many bytes it has; `owed` is the ledger with 8 added. Where `out` has under 64 bytes of room
 // nothing is written and the answer is 0.
 pub fn accepted_line(out: &mut [u8], commands: u64, refreshes: u64, owed: u8) -> usize
-    ensures { λ r. ⌜ Written (verdictLine (accepted commands refreshes (subℕ owed 8))) (now (out .entry)) (now (out .exit)) r ⌝ }
+    ensures { λ r. ⌜ Written (verdictLine (accepted commands refreshes (subℕ owed 8 ∷ []))) (now (out .entry)) (now (out .exit)) r ⌝ }
 {
     if out.len() < 64 {
         return 0;

@@ -5,6 +5,7 @@ pub mod Fronts
 pub mod Written
 pub mod Unlisted
 pub mod Rounds
+pub mod Asleep
 pub mod Values
 pub mod Promises
 pub mod Trips

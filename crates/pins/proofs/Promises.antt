@@ -1,10 +1,17 @@
 -- The promise of each public function determines its answer, and the writer's what it leaves in the buffer. `claims` is what a promise says, as a plain claim.
 use mathlib.Core.Path.{_≡_, refl, sym, _∙_}
 use Rattle.rules.proofs.Determined.{Promise, Plainly, Determined, determined, fact-of, both-of}
-use Rattle.pins.proofs.Values.{one-decoded, one-wrote}
+use Rattle.pins.proofs.Values.{one-command, one-decoded, one-level, one-moved, one-read, one-wrote}
 use Rattle.pins.proofs.counter.counter_after as counter-after
 use Rattle.pins.proofs.fields.entry_at as entry-at
 use Rattle.pins.proofs.fields.stamp_at as stamp-at
+use Rattle.pins.proofs.levels.is_awake as is-awake
+use Rattle.pins.proofs.levels.judged as judged
+use Rattle.pins.proofs.levels.level_after as level-after
+use Rattle.pins.proofs.levels.move_of as move-of
+use Rattle.pins.proofs.levels.read_pins as read-pins
+use Rattle.pins.proofs.levels.recorded as recorded
+use Rattle.pins.proofs.levels.rises_from as rises-from
 use Rattle.pins.proofs.reader.decode as decode
 use Rattle.pins.proofs.table.kind_of as kind-of
 use Rattle.pins.proofs.table.kinds as kinds
@@ -18,6 +25,51 @@ decode-claims κs a r e = fact-of _
 
 pub decode-determined : Determined decode.ended decode-says
 decode-determined = determined decode.ended decode-says decode-claims (λ κs a r r′ ws ws′ p p′. (one-decoded r r′ (p .is) (p′ .is), refl))
+
+abbrev read-pins-says : Promise read-pins.ended
+read-pins-says w = read-pins.clauses (w .𝓤) (w .H) (w .𝓖 .A) (w .𝓜 .mem) (w .𝓡 .run)
+
+abbrev pub read-pins-claims : Plainly read-pins.ended read-pins-says
+read-pins-claims κs a r e = fact-of _
+
+pub read-pins-determined : Determined read-pins.ended read-pins-says
+read-pins-determined = determined read-pins.ended read-pins-says read-pins-claims (λ κs a r r′ ws ws′ p p′. (one-read r r′ (p .is) (p′ .is), refl))
+
+abbrev recorded-says : Promise recorded.ended
+recorded-says w = recorded.clauses (w .𝓤) (w .H) (w .𝓖 .A) (w .𝓜 .mem) (w .𝓡 .run)
+
+pub recorded-determined : Determined recorded.ended recorded-says
+recorded-determined = determined recorded.ended recorded-says (λ κs a r e. fact-of _) (λ κs a r r′ ws ws′ p p′. (one-command r r′ p p′, refl))
+
+abbrev judged-says : Promise judged.ended
+judged-says w = judged.clauses (w .𝓤) (w .H) (w .𝓖 .A) (w .𝓜 .mem) (w .𝓡 .run)
+
+pub judged-determined : Determined judged.ended judged-says
+judged-determined = determined judged.ended judged-says (λ κs a r e. fact-of _) (λ κs a r r′ ws ws′ p p′. (one-command r r′ p p′, refl))
+
+abbrev move-of-says : Promise move-of.ended
+move-of-says w = move-of.clauses (w .𝓤) (w .H) (w .𝓖 .A) (w .𝓜 .mem) (w .𝓡 .run)
+
+pub move-of-determined : Determined move-of.ended move-of-says
+move-of-determined = determined move-of.ended move-of-says (λ κs a r e. fact-of _) (λ κs a r r′ ws ws′ p p′. (one-moved r r′ p p′, refl))
+
+abbrev level-after-says : Promise level-after.ended
+level-after-says w = level-after.clauses (w .𝓤) (w .H) (w .𝓖 .A) (w .𝓜 .mem) (w .𝓡 .run)
+
+pub level-after-determined : Determined level-after.ended level-after-says
+level-after-determined = determined level-after.ended level-after-says (λ κs a r e. fact-of _) (λ κs a r r′ ws ws′ p p′. (one-level r r′ p p′, refl))
+
+abbrev rises-from-says : Promise rises-from.ended
+rises-from-says w = rises-from.clauses (w .𝓤) (w .H) (w .𝓖 .A) (w .𝓜 .mem) (w .𝓡 .run)
+
+pub rises-from-determined : Determined rises-from.ended rises-from-says
+rises-from-determined = determined rises-from.ended rises-from-says (λ κs a r e. fact-of _) (λ κs a r r′ ws ws′ p p′. (p ∙ sym p′, refl))
+
+abbrev is-awake-says : Promise is-awake.ended
+is-awake-says w = is-awake.clauses (w .𝓤) (w .H) (w .𝓖 .A) (w .𝓜 .mem) (w .𝓡 .run)
+
+pub is-awake-determined : Determined is-awake.ended is-awake-says
+is-awake-determined = determined is-awake.ended is-awake-says (λ κs a r e. fact-of _) (λ κs a r r′ ws ws′ p p′. (p ∙ sym p′, refl))
 
 abbrev kinds-says : Promise kinds.ended
 kinds-says w = kinds.clauses (w .𝓤) (w .H) (w .𝓖 .A) (w .𝓜 .mem) (w .𝓡 .run)

@@ -7,13 +7,14 @@ use native.Mathlib.Omega.{arith}
 use lib.Dec.{eqb}
 use borrow.Author.Tests.{le-leb, lt-leb}
 use Rattle.rules.specs.Commands.{Command}
+use Rattle.rules.specs.Levels.{Move}
 use Rattle.rules.specs.Past.{counterAfter}
 use Rattle.rules.proofs.Tests.{eq-cases}
 use Rattle.pins.specs.Counter.{counterOn}
 
-pub counter-on : (c : Command) (n : ℕ) → n ≤ 7 → counterOn c n ≡ counterAfter c n
+pub counter-on : (c : Command) (m : Move) (n : ℕ) → n ≤ 7 → counterOn c m n ≡ counterAfter c m n
 unfolding counterOn counterAfter
-counter-on c n h =
+counter-on c m n h =
     ⊎-elim (λ (p : (n ≡ 7) × (eqb n 7 ≡ true)). rw (p .1, le-leb 7 n (omega arith)))
     (λ (p : (n ≡ 7 → ⊥) × (eqb n 7 ≡ false)). rw (p .1, lt-leb 7 n (omega arith)))
     (eq-cases n 7)

@@ -1,4 +1,4 @@
--- The round trips, said of every answer that the promises of `write_entry`, `entry_at` and `decode` permit.
+-- The round trips, said of every answer that the promises of `write_entry`, `entry_at`, `decode` and `read_pins` permit.
 use Prim.Native.Nat.{ℕ, _/_, _^_, _≤_, _<_}
 use mathlib.Core.Path.{_≡_, refl, sym, ap, _∙_}
 use mathlib.Core.Bool.{Bool, true, false, cond}
@@ -21,19 +21,25 @@ use Rattle.rules.specs.Writer.{bigEndian, fieldBytes, entryBytes, writeRefusal,
 use Rattle.rules.proofs.Tests.{some-none}
 use Rattle.rules.proofs.WriteRead.{write-read}
 use Rattle.rules.proofs.ReadWrite.{read-fits, read-write, written-zero, nop-written}
+use Rattle.rules.proofs.Waking.{read-decoded, awake-reads}
 use Rattle.pins.specs.declared.Decoded.{Decoded}
 use Rattle.pins.specs.declared.Decoded.the-variants.{Good}
 use Rattle.pins.specs.declared.Front.{Front}
+use Rattle.pins.specs.declared.Level.{Level}
+use Rattle.pins.specs.declared.Level.the-variants.{Awake}
+use Rattle.pins.specs.declared.Read.{Read}
+use Rattle.pins.specs.declared.Read.the-variants.{Plain}
 use Rattle.pins.specs.declared.Wrote.{Wrote}
 use Rattle.pins.specs.declared.Wrote.the-variants.{Done}
 use Rattle.pins.specs.declared.Command as own
 use Rattle.pins.specs.declared.Command.the-variants.{Nop}
 use Rattle.pins.specs.Fronts.{frontAs}
-use Rattle.pins.specs.Values.{commandOf, decodedOf, refusalOf}
+use Rattle.pins.specs.Values.{commandOf, decodedOf, levelOf, readOf, refusalOf}
 use Rattle.pins.proofs.Fronts.{put-read}
-use Rattle.pins.proofs.Values.{one-decoded, one-wrote}
-use Rattle.pins.proofs.Promises.{decode-claims, entry-at-claims, write-entry-claims}
+use Rattle.pins.proofs.Values.{one-decoded, one-wrote, decoded-as, read-as}
+use Rattle.pins.proofs.Promises.{decode-claims, read-pins-claims, entry-at-claims, write-entry-claims}
 use Rattle.pins.proofs.fields.entry_at as entry-at
+use Rattle.pins.proofs.levels.read_pins as read-pins
 use Rattle.pins.proofs.reader.decode as decode
 use Rattle.pins.proofs.writer.write_entry as write-entry
 
@@ -41,6 +47,10 @@ use Rattle.pins.proofs.writer.write_entry as write-entry
 -- `decode` may answer d of pins p
 abbrev pub Decodes : (p : ℕ) (d : Decoded) → Type 0
 Decodes p d = decode-claims tt (p, tt) d (atExit decode.ended tt (p, tt) (tt, tt)) .claim
+
+-- `read_pins` may answer r of pins p at level l
+abbrev pub ReadsPins : (sleeps : Bool) (l : Level) (p : ℕ) (r : Read) → Type 0
+ReadsPins s l p r = read-pins-claims tt (s, (l, (p, tt))) r (atExit read-pins.ended tt (s, (l, (p, tt))) (tt, (tt, (tt, tt)))) .claim
 
 -- a call of `write_entry`: its arguments, its answer, and what it leaves
 pub record Writing : Type 0 where
@@ -77,6 +87,18 @@ Reads y = entry-at-claims (y .κs) (y .args) (y .front) (atExit entry-at.ended (
 -- at the start of what a call of the writer left
 abbrev pub Of : Writing → Reading → Type 0
 Of x y = (y .args .0 .now ≡ after x) × (y .args .1 .0 ≡ 0)
+
+-- ---- low clock-enable
+-- what is read as a command is decoded as it, at whatever level, so that what is said below of decoded commands is said of all entries: moves and entries asleep
+-- are no commands, and rewriting passes them over
+pub read-decodes : (s : Bool) (l : Level) (p : ℕ) (c : own.Command) → ReadsPins s l p (Plain (Good c)) → Decodes p (Good c)
+unfolding decodedOf readOf
+read-decodes s l p c e = decoded-as p (Good c) (sym (read-decoded s (levelOf l) p (commandOf c) (sym (e .is))))
+
+-- and awake the other way round
+pub decodes-read : (s : Bool) (p : ℕ) (c : own.Command) → Decodes p (Good c) → ReadsPins s Awake p (Plain (Good c))
+unfolding decodedOf levelOf readOf
+decodes-read s p c e = read-as _ (Plain (Good c)) (sym (awake-reads s p (commandOf c) (sym (e .is))))
 
 -- ---- what is put, and read there
 decoded-small : (p : ℕ) (c : Command) → paper.decode p ≡ paper.good c → p < 256 ^ 3

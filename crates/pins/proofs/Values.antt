@@ -6,16 +6,23 @@ use mathlib.Core.Option.{Option, none, some}
 use lib.Dec.{eqb}
 use Rattle.rules.specs.Commands as rules
 use Rattle.rules.specs.Pins as pins
+use Rattle.rules.specs.Levels as levels
 use Rattle.rules.specs.Folds.{orElse, firstOf}
-use Rattle.rules.specs.Checks.{Refusal, refusal, unless, isWrong, isReserved}
+use Rattle.rules.specs.Checks.{Refusal, refusal, unless, isWrong, isReserved, isBarred}
 use Rattle.rules.proofs.Determined.{tells}
 use Rattle.pins.specs.declared.Command.{Command}
 use Rattle.pins.specs.declared.Command.the-variants.{Nop, Mrw, Mrr, Refpb, Refab, Act, Rd, Wr, Pre, Prea}
 use Rattle.pins.specs.declared.Decoded.{Decoded}
 use Rattle.pins.specs.declared.Decoded.the-variants.{Good, WrongBits, Reserved}
+use Rattle.pins.specs.declared.Level.{Level}
+use Rattle.pins.specs.declared.Level.the-variants.{Awake, PowerDown, SelfRefresh, Deep}
+use Rattle.pins.specs.declared.Move.{Move}
+use Rattle.pins.specs.declared.Move.the-variants.{Stays, Falls, Rises}
+use Rattle.pins.specs.declared.Read.{Read}
+use Rattle.pins.specs.declared.Read.the-variants.{Plain, Moved, Asleep, Barred}
 use Rattle.pins.specs.declared.Wrote.{Wrote}
 use Rattle.pins.specs.declared.Wrote.the-variants.{Done, Unfit, NoRoom}
-use Rattle.pins.specs.Values.{commandOf, decodedOf, pinsRefusal, DecodedAs, refusalOf}
+use Rattle.pins.specs.Values.{commandOf, decodedOf, levelOf, movedOf, readOf, pinsRefusal, readRefusal, pinsFail, DecodedAs, ReadAs, refusalOf}
 
 -- the code's values, back from those of the rules
 abbrev command : rules.Command → Command
@@ -34,6 +41,23 @@ abbrev decoded : pins.Decoded → Decoded
 decoded (pins.good c) = Good (command c)
 decoded pins.wrongBits = WrongBits
 decoded pins.reserved = Reserved
+
+abbrev level : levels.Level → Level
+level levels.awake = Awake
+level levels.powerDown = PowerDown
+level levels.selfRefresh = SelfRefresh
+level levels.deep = Deep
+
+abbrev moved : levels.Move → Move
+moved levels.stays = Stays
+moved (levels.falls l) = Falls (level l)
+moved (levels.rises l) = Rises (level l)
+
+abbrev read : levels.Read → Read
+read (levels.plain d) = Plain (decoded d)
+read (levels.moved m) = Moved (moved m)
+read levels.asleep = Asleep
+read levels.barred = Barred
 
 abbrev wrote : Option Refusal → Wrote
 wrote none = Done
@@ -58,6 +82,26 @@ decoded-back (Good c) = ap Good (command-back c)
 decoded-back WrongBits = refl
 decoded-back Reserved = refl
 
+level-back : (l : Level) → level (levelOf l) ≡ l
+unfolding levelOf
+level-back Awake = refl
+level-back PowerDown = refl
+level-back SelfRefresh = refl
+level-back Deep = refl
+
+moved-back : (m : Move) → moved (movedOf m) ≡ m
+unfolding movedOf
+moved-back Stays = refl
+moved-back (Falls l) = ap Falls (level-back l)
+moved-back (Rises l) = ap Rises (level-back l)
+
+read-back : (r : Read) → read (readOf r) ≡ r
+unfolding readOf
+read-back (Plain d) = ap Plain (decoded-back d)
+read-back (Moved m) = ap Moved (moved-back m)
+read-back Asleep = refl
+read-back Barred = refl
+
 wrote-back : (r : Wrote) → wrote (refusalOf r) ≡ r
 unfolding refusalOf refusal
 wrote-back Done = refl
@@ -70,11 +114,34 @@ one-command = tells commandOf command command-back
 pub one-decoded : {z : pins.Decoded} (x y : Decoded) → decodedOf x ≡ z → decodedOf y ≡ z → x ≡ y
 one-decoded = tells decodedOf decoded decoded-back
 
+pub one-level : {z : levels.Level} (x y : Level) → levelOf x ≡ z → levelOf y ≡ z → x ≡ y
+one-level = tells levelOf level level-back
+
+pub one-moved : {z : levels.Move} (x y : Move) → movedOf x ≡ z → movedOf y ≡ z → x ≡ y
+one-moved = tells movedOf moved moved-back
+
+pub one-read : {z : levels.Read} (x y : Read) → readOf x ≡ z → readOf y ≡ z → x ≡ y
+one-read = tells readOf read read-back
+
 pub one-wrote : {z : Option Refusal} (x y : Wrote) → refusalOf x ≡ z → refusalOf y ≡ z → x ≡ y
 one-wrote = tells refusalOf wrote wrote-back
 
+-- ---- the refusal follows from what the pins are
+plain-told : (d : Decoded) → pinsRefusal d ≡ pinsFail (levels.plain (decodedOf d))
+unfolding decodedOf pinsRefusal pinsFail firstOf orElse unless isWrong isReserved isBarred
+plain-told (Good c) = refl
+plain-told WrongBits = refl
+plain-told Reserved = refl
+
+read-told : (r : Read) → readRefusal r ≡ pinsFail (readOf r)
+unfolding readOf readRefusal pinsFail firstOf orElse unless isWrong isReserved isBarred
+read-told (Plain d) = plain-told d
+read-told (Moved m) = refl
+read-told Asleep = refl
+read-told Barred = refl
+
 pub decoded-as : (p : ℕ) (d : Decoded) → decodedOf d ≡ pins.decode p → DecodedAs p d
-unfolding decodedOf pinsRefusal firstOf orElse unless isWrong isReserved
-decoded-as p (Good c) e = record { is = e; told = rw (← e) }
-decoded-as p WrongBits e = record { is = e; told = rw (← e) }
-decoded-as p Reserved e = record { is = e; told = rw (← e) }
+decoded-as p d e = record { is = e; told = rw (← e) (plain-told d) }
+
+pub read-as : (x : levels.Read) (r : Read) → readOf r ≡ x → ReadAs x r
+read-as x r e = record { is = e; told = rw (← e) (read-told r) }

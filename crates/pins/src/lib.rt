@@ -1,6 +1,7 @@
-// The commands on the pins: decoding, the table of kinds, and the writer; the fields that hold them; the round counter.
+// The commands on the pins: decoding, the table of kinds, and the writer; the fields that hold them; low clock-enable; the round counter.
 mod counter;
 mod fields;
+mod levels;
 mod reader;
 mod table;
 mod writer;
@@ -8,6 +9,13 @@ mod writer;
 pub use counter::counter_after;
 pub use fields::entry_at;
 pub use fields::stamp_at;
+pub use levels::is_awake;
+pub use levels::judged;
+pub use levels::level_after;
+pub use levels::move_of;
+pub use levels::read_pins;
+pub use levels::recorded;
+pub use levels::rises_from;
 pub use reader::decode;
 pub use table::kind_of;
 pub use table::kinds;
@@ -32,6 +40,29 @@ pub enum Decoded {
     Good(Command),
     WrongBits,
     Reserved,
+}
+
+// The level that a part is in.
+pub enum Level {
+    Awake,
+    PowerDown,
+    SelfRefresh,
+    Deep,
+}
+
+// Clock-enable stays, falls into a level, or rises from one.
+pub enum Move {
+    Stays,
+    Falls(Level),
+    Rises(Level),
+}
+
+// What pins are at a level: what they are awake with clock-enable high, a move, an entry asleep, or what is not permitted here (16).
+pub enum Read {
+    Plain(Decoded),
+    Moved(Move),
+    Asleep,
+    Barred,
 }
 
 // What the writer did: an entry written, or a refusal because of what the command carries (14) or for want of room (15).

@@ -12,16 +12,16 @@ use lib.IntN.{pos, negsuc, sucℤ, negℤ, subℕ, pred-suc}
 use lib.Signed.{ltZ, leZ}
 use borrow.Author.Tests.{lt-ltb, le-ltb, le-leb, lt-leb}
 use Rattle.rules.specs.Lists.{isOneOf}
-use Rattle.rules.specs.Account.{Terms, isDue, takeOne, cycle, ledgerBefore, ledgerAfter, lastCounted, failing, failingAt}
+use Rattle.rules.specs.Account.{Terms, Schedule, takeOne, cycle, ledgerBefore, failing, Book}
 use Rattle.rules.proofs.Tests.{lt-cases, le-cases}
 
-unfoldable pub due : ℕ → ℕ → ℕ
-due I t = cond (isDue I t) 1 0
+unfoldable pub due : Schedule → ℕ → ℕ
+due s n = cond (s .due n) 1 0
 
 -- the ledger before cycle t, plus the credit k
-unfoldable pub owed : (k I : ℕ) → List ℕ → ℕ → ℕ
-owed k I cs zero = k
-owed k I cs (suc t) = owed k I cs t + due I t - cond (isOneOf cs t) 1 0
+unfoldable pub owed : (k : ℕ) → Schedule → List ℕ → ℕ → ℕ
+owed k s cs zero = k
+owed k s cs (suc n) = owed k s cs n + due s n - cond (isOneOf cs n) 1 0
 
 -- ---- o less k, and one more or less
 pub sub-below : (o k : ℕ) → o < k → subℕ o k ≡ negsuc (k - suc o)
@@ -75,9 +75,9 @@ take-biased k (suc o) =
     rw (at-least k o, e, ← sub-suc o k) (pred-suc (subℕ o k))
 
 -- one cycle
-pub cycle-biased : (k I : ℕ) (b : Bool) (t o : ℕ) → cycle k I b t (subℕ o k) ≡ subℕ (o + due I t - cond b 1 0) k
+pub cycle-biased : (k : ℕ) (s : Schedule) (b : Bool) (n o : ℕ) → cycle k s b n (subℕ o k) ≡ subℕ (o + due s n - cond b 1 0) k
 unfolding cycle due
-cycle-biased k I b t o = go (isDue I t) b
+cycle-biased k s b n o = go (s .due n) b
   where
     go : (d b : Bool) → cond b (takeOne k (cond d (sucℤ (subℕ o k)) (subℕ o k))) (cond d (sucℤ (subℕ o k)) (subℕ o k)) ≡ subℕ (o + cond d 1 0 - cond b 1 0) k
     go true true = let z : suc o - 1 ≡ o + 1 - 1 = omega arith in ap (takeOne k) (sub-suc o k) ∙ take-biased k (suc o) ∙ ap (λ (n : ℕ). subℕ n k) z
@@ -85,10 +85,10 @@ cycle-biased k I b t o = go (isDue I t) b
     go false true = let z : o - 1 ≡ o + 0 - 1 = omega arith in take-biased k o ∙ ap (λ (n : ℕ). subℕ n k) z
     go false false = let z : o ≡ o + 0 - 0 = omega arith in ap (λ (n : ℕ). subℕ n k) z
 
-pub ledger-biased : (k I : ℕ) (cs : List ℕ) (t : ℕ) → ledgerBefore k I cs t ≡ subℕ (owed k I cs t) k
+pub ledger-biased : (k : ℕ) (s : Schedule) (cs : List ℕ) (n : ℕ) → ledgerBefore k s cs n ≡ subℕ (owed k s cs n) k
 unfolding ledgerBefore owed
-ledger-biased k I cs zero = rw (sub-from k k (omega arith)) (ap pos (omega arith))
-ledger-biased k I cs (suc t) = rw (ledger-biased k I cs t) (cycle-biased k I (isOneOf cs t) t (owed k I cs t))
+ledger-biased k s cs zero = rw (sub-from k k (omega arith)) (ap pos (omega arith))
+ledger-biased k s cs (suc n) = rw (ledger-biased k s cs n) (cycle-biased k s (isOneOf cs n) n (owed k s cs n))
 
 -- the signed number against a limit
 pub le-biased : (o k m : ℕ) → leZ (subℕ o k) (pos m) ≡ leb o (k + m)
@@ -104,13 +104,14 @@ le-biased o k m = ⊎-elim
         (le-cases o (k + m))
 
 -- rules 19 and 20 by the biased number
-unfoldable pub owing : Terms → (I o last t : ℕ) → Option (ℕ × ℕ)
-owing k I o last t = cond (leb o (k .credit + k .limit)) (cond (leb (t - last) (k .gap * I)) none (some (k .gapRule, t))) (some (k .limitRule, t))
+unfoldable pub owing : Terms → Schedule → (o last n t : ℕ) → Option (ℕ × ℕ)
+owing k s o last n t =
+    cond (leb o (k .credit + k .limit)) (cond (leb (n - s .since last n) (k .gap * s .span n)) none (some (k .gapRule, t))) (some (k .limitRule, t))
 
-pub failing-biased : (k : Terms) (I o last t : ℕ) → failing k I (subℕ o (k .credit)) last t ≡ owing k I o last t
+pub failing-biased : (k : Terms) (s : Schedule) (o last n t : ℕ) → failing k s (subℕ o (k .credit)) last n t ≡ owing k s o last n t
 unfolding failing owing
-failing-biased k I o last t = rw (le-biased o (k .credit) (k .limit))
+failing-biased k s o last n t = rw (le-biased o (k .credit) (k .limit))
 
-pub failingAt-biased : (k : Terms) (I : ℕ) (cs : List ℕ) (t : ℕ) → failingAt k I cs t ≡ owing k I (owed (k .credit) I cs (suc t)) (lastCounted cs t) t
-unfolding failingAt ledgerAfter
-failingAt-biased k I cs t = rw (ledger-biased (k .credit) I cs (suc t)) (failing-biased k I (owed (k .credit) I cs (suc t)) (lastCounted cs t) t)
+-- ---- the account by numbers alone: each cycle is counted, and its number is its own
+abbrev pub numbered : Schedule → List ℕ → Book
+numbered s cs = record { schedule = s; clock = λ t. t; refreshes = cs }

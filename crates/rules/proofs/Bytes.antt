@@ -1,7 +1,7 @@
 -- Numbers written in bytes are read back; an entry field that the writer puts is read as that entry.
 use Prim.Native.Nat.{ℕ, zero, suc, _+_, _*_, _/_, _%_, _^_, _<_}
 use mathlib.Core.Path.{_≡_, _∙_}
-use mathlib.Core.Bool.{true}
+use mathlib.Core.Bool.{Bool, true}
 use mathlib.Core.List.{List, _++_}
 use native.Mathlib.Nat.{pow-zero, pow-succ', mod-one, mod-eq-of-lt}
 use native.Mathlib.Omega.{arith}
@@ -9,7 +9,7 @@ use lib.Arith.{mod-mul}
 use lib.Dec.{lit<}
 use borrow.Author.Tests.{le-leb}
 use lib.ListN.{length}
-use Rattle.rules.specs.Form.{numberFrom, number, Field, cardWhole, mayCome, lengths, _of_, isListed, lengthGood, whole, valued, sized, headOf, entryOf}
+use Rattle.rules.specs.Form.{numberFrom, number, Field, cardWhole, ofTrace, mayFollow, mayCome, lengths, _of_, isListed, lengthGood, whole, valued, sized, headOf, entryOf}
 use Rattle.rules.specs.Writer.{bigEndian, fieldBytes, entryBytes}
 
 pow-positive : (w : ℕ) → 0 < 256 ^ w
@@ -34,9 +34,9 @@ number-bytes w x h = number-from 0 w x ∙ rw (mod-eq-of-lt h) (omega arith)
 unfoldable pub entryField : (stamp pins : ℕ) → Field
 entryField stamp p = record { tag = 32; high = 0; low = 7; value = bigEndian 4 stamp ++ bigEndian 3 p }
 
-pub entry-head : (fs : List Field) (stamp p : ℕ) (rest : List ℕ) → cardWhole fs ≡ true → headOf fs (entryBytes stamp p ++ rest) ≡ whole (entryField stamp p) rest
-unfolding headOf sized valued mayCome lengthGood isListed lengths _of_ entryBytes fieldBytes bigEndian entryField
-entry-head fs stamp p rest h = rw (h, le-leb 7 (length ((bigEndian 4 stamp ++ bigEndian 3 p) ++ rest)) (omega arith))
+pub entry-head : (b : Bool) (fs : List Field) (stamp p : ℕ) (rest : List ℕ) → cardWhole fs ≡ true → headOf b fs (entryBytes stamp p ++ rest) ≡ whole (entryField stamp p) rest
+unfolding headOf sized valued cardWhole mayCome mayFollow ofTrace lengthGood isListed lengths _of_ entryBytes fieldBytes bigEndian entryField
+entry-head b fs stamp p rest h = rw (h, le-leb 7 (length ((bigEndian 4 stamp ++ bigEndian 3 p) ++ rest)) (omega arith))
 
 pub entry-read : (stamp p : ℕ) → stamp < 256 ^ 4 → p < 256 ^ 3 → entryOf (entryField stamp p) ≡ record { stamp = stamp; pins = p }
 unfolding entryOf entryField bigEndian

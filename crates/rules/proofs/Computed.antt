@@ -1,229 +1,211 @@
--- The verdict of a file with the account in closed form: what is cheap to compute, equal to document 01's verdict.
-use Prim.Native.Nat.{ℕ, zero, suc, _+_, _<_}
+-- The verdict of a file by a ledger that is moved on in closed form: cheap to compute, and equal to document 01's verdict.
+use Prim.Native.Nat.{ℕ, suc, _+_, _≤_, _<_}
 use mathlib.Core.Path.{_≡_, refl, ap, sym, _∙_}
-use mathlib.Core.Bool.{Bool, true, false, cond}
+use mathlib.Core.Logic.{⊎-elim}
+use mathlib.Core.Bool.{Bool, true, false}
 use mathlib.Core.List.{List, [], _∷_}
-use mathlib.Core.Option.{Option, none, some}
-use lib.Dec.{ltb, eqb}
-use lib.IntN.{ℤ, subℕ}
-use lib.ListN.{length}
-use borrow.Author.Tests.{ltb-true}
+use mathlib.Core.Option.{Option, none}
+use native.Mathlib.Omega.{arith}
+use borrow.Author.Tests.{eqb-true}
 use Rattle.rules.specs.Card.{Card}
-use Rattle.rules.specs.Units.{interval, delaysOf}
-use Rattle.rules.specs.Past.{Past, isCounted, countedStamps, commandCount}
-use Rattle.rules.specs.Entries.{Entry, viewOf, read, taken}
+use Rattle.rules.specs.Units.{delaysOf}
+use Rattle.rules.specs.Ranges.{cardGood}
+use Rattle.rules.specs.Levels.{levelAfter}
+use Rattle.rules.specs.Past.{Past, levelAt, counterAt, isCounted, commandCount}
+use Rattle.rules.specs.Entries.{Entry, viewOf, readAfter, taken, pastWith}
 use Rattle.rules.specs.Folds.{orElse, firstOf}
-use Rattle.rules.specs.Account.{lpddr3, ledgerAfter, lastCounted}
+use Rattle.rules.specs.Account.{lpddr3, every, sinceOn, failingOn, firstOn}
+use Rattle.rules.specs.Clock.{beatOf, scheduleOf, bookOf, booksOf}
 use Rattle.rules.specs.Checks.{Refusal, unless, named, checks, above, notBelow, entryChecks, endChecks, entryRefusal, endRefusal}
-use Rattle.rules.specs.Form.{Field, sizeOf, Head, whole, cut, badTag, badLength, headOf, cardOf, fieldGood, entryOf, endOf}
-use Rattle.rules.specs.File.{
-  FileVerdict,
-  accepted,
-  refused,
-  Step,
-  goesOn,
-  ends,
-  orRefused,
-  cardStep,
-  entryStep,
-  acceptedAt,
-  closing,
-  endStep,
-  byHead,
-  stepOf,
-  Judged,
-  fileFrom,
-  judged,
+use Rattle.rules.specs.Verdict.{refreshCount, ledgersAt}
+use Rattle.rules.specs.Reading.{Above, NotBelow}
+use Rattle.rules.specs.Form.{Field, sizeOf, cardWhole, ofTrace, mayCome, mayFollow, cardOf, fieldGood, entryOf}
+use Rattle.rules.specs.File.{accepted, begun, Judged, judged}
+use Rattle.rules.specs.FileReading.{CardRight}
+use Rattle.rules.specs.Lent.{Ledger, Lent, owingGood, Effect, effectOf, refreshedAt, atLevel, failingOf, lastCycle, ledgerAt, shareOf, standsAt, standing, fresh, AllTaken}
+use Rattle.rules.proofs.Rounding.{interval-positive}
+use Rattle.rules.proofs.Decided.{orElse-none, unless-none, above-iff, not-below-iff, failing-one, first-one}
+use Rattle.rules.proofs.Closed.{ledgerClosed, failingClosed, ledger-closed, failing-closed}
+use Rattle.rules.proofs.Ledgers.{number-at, moved-on, failing-to, entered-with}
+use Rattle.rules.proofs.Taken.{passed, below-last, rising, orderly, paid-through, owing-good}
+use Rattle.rules.proofs.StepByList.{fresh-stands}
+use Rattle.rules.proofs.FileSteps.{next-small, no-more}
+use Rattle.rules.proofs.CardRead.{card-good}
+use Rattle.rules.proofs.Walks.{Judge, judgedBy, defined, defined-judged, Sized, Here, kept, agree}
+
+-- ---- the ledger of a past, entry by entry
+unfoldable pub ledgerThen : Card → Effect → (stamp : ℕ) → Ledger → Ledger
+ledgerThen card x t g = atLevel (x .level) (refreshedAt (x .counted) (ledgerClosed (beatOf card) g t))
+
+unfoldable pub ledgerOver : Card → Past → Ledger
+ledgerOver card [] = fresh card .share .ledger
+ledgerOver card (x ∷ t) =
+    ledgerThen card (record { counted = isCounted (x .cmd) (counterAt t); level = levelAfter (x .move) (levelAt t) }) (x .stamp) (ledgerOver card t)
+
+-- ---- an entry and the end, by the ledger g of their past
+unfoldable pub entryFrom : Card → Past → Ledger → Entry → Option Refusal
+entryFrom card past g e =
+    let r = readAfter card past e in
+    firstOf (
+    checks card (delaysOf card) (viewOf card past) (above past (e .stamp)) (failingClosed (beatOf card) g (e .stamp))
+    (failingOf (beatOf card) (ledgerThen card (effectOf r (counterAt past) (levelAt past)) (e .stamp) g)) r (e .stamp)
+    )
+
+unfoldable pub endFrom : Card → Past → Ledger → ℕ → Option Refusal
+endFrom card past g end = firstOf (unless (notBelow past end) 5 ∷ named 11 (failingClosed (beatOf card) g (suc end)) ∷ [])
+
+unfoldable pub computing : Judge
+computing = record {
+  come = mayCome;
+  entry = λ card past e. entryFrom card past (ledgerOver card past) e;
+  next = pastWith;
+  end = λ card past end. endFrom card past (ledgerOver card past) end;
+  verdict = λ card past end. accepted (commandCount past) (refreshCount past) (ledgerClosed (beatOf card) (ledgerOver card past) end .owing ∷ []);
 }
-use Rattle.rules.proofs.Tests.{some-none}
-use Rattle.rules.proofs.Biased.{ledger-biased, owing, failingAt-biased}
-use Rattle.rules.proofs.Rounds.{Rising}
-use Rattle.rules.proofs.Decided.{above-iff}
-use Rattle.rules.proofs.Refreshed.{above-all}
-use Rattle.rules.proofs.Groups.{Falling, falling-where}
-use Rattle.rules.proofs.Closed.{owedClosed, firstClosed, owed-closed, first-closed}
-
-module _ (card : Card) where
-  counted-falling : (past : Past) → Rising past → Falling (countedStamps past)
-  unfolding countedStamps
-  counted-falling past r = falling-where isCounted past r
-
-  pub rising-next : (past : Past) (e : Entry) → Rising past → above past (e .stamp) ≡ true → Rising (taken card past e ∷ past)
-  unfolding Rising taken
-  rising-next past e r a = (above-all past (e .stamp) r (above-iff past (e .stamp) .0 a), r)
-
-  pub passed-above : (past : Past) (e : Entry) → entryRefusal card past e ≡ none → above past (e .stamp) ≡ true
-  unfolding entryRefusal entryChecks checks firstOf
-  passed-above past e h = go (above past (e .stamp)) refl
-    where
-      go : (x : Bool) → above past (e .stamp) ≡ x → above past (e .stamp) ≡ true
-      go true a = a
-      go false a = absurd (unfold unless orElse in some-none (sym (rw a at h)))
-
-  -- the checks, with the account in closed form
-  unfoldable pub entryComputed : Past → Entry → Option Refusal
-  entryComputed past e =
-      let cs = countedStamps (taken card past e ∷ past) in
-      firstOf (
-      checks card (delaysOf card) (viewOf card past) (above past (e .stamp)) (firstClosed lpddr3 (interval card) (countedStamps past) (e .stamp))
-      (owing lpddr3 (interval card) (owedClosed lpddr3 (interval card) cs (e .stamp)) (lastCounted cs (e .stamp)) (e .stamp))
-      (read card (viewOf card past) e) (e .stamp)
-      )
-
-  unfoldable pub endComputed : Past → ℕ → Option Refusal
-  endComputed past end =
-      firstOf (unless (notBelow past end) 5 ∷ named 11 (firstClosed lpddr3 (interval card) (countedStamps past) (suc end)) ∷ [])
-
-  unfoldable pub owingComputed : Past → ℕ → ℤ
-  owingComputed past end = subℕ (owedClosed lpddr3 (interval card) (countedStamps past) end) (lpddr3 .credit)
-
-  module _ (positive : 0 < interval card) (past : Past) (r : Rising past) where
-    entry-computed : (e : Entry) → entryComputed past e ≡ entryRefusal card past e
-    unfolding entryComputed entryRefusal entryChecks
-    entry-computed e = go (above past (e .stamp)) refl
-      where
-        go : (x : Bool) → above past (e .stamp) ≡ x → entryComputed past e ≡ entryRefusal card past e
-        go false a = unfold checks unless firstOf orElse in rw a
-        go true a =
-            let next = counted-falling (taken card past e ∷ past) (rising-next past e r a) in
-            rw (
-              failingAt-biased lpddr3 (interval card) (countedStamps (taken card past e ∷ past)) (e .stamp),
-              owed-closed lpddr3 (interval card) positive (countedStamps (taken card past e ∷ past)) next (e .stamp),
-              first-closed lpddr3 (interval card) positive (countedStamps past) (counted-falling past r) (e .stamp),
-            )
-
-    end-computed : (end : ℕ) → endComputed past end ≡ endRefusal card past end
-    unfolding endComputed endRefusal endChecks
-    end-computed end = rw (first-closed lpddr3 (interval card) positive (countedStamps past) (counted-falling past r) (suc end))
-
-    owing-computed : (end : ℕ) → owingComputed past end ≡ ledgerAfter (lpddr3 .credit) (interval card) (countedStamps past) end
-    unfolding owingComputed ledgerAfter
-    owing-computed end =
-        rw (ledger-biased (lpddr3 .credit) (interval card) (countedStamps past) (suc end), owed-closed lpddr3 (interval card) positive (countedStamps past) (counted-falling past r) end)
-
--- ---- the file; where I is 0, which no card in range has, the account is walked
-unfoldable pub entryStepComputed : List Field → Past → ℕ → Field → List ℕ → Step
-entryStepComputed fs past at f rest =
-    let card = cardOf fs in
-    let next = goesOn fs (taken card past (entryOf f) ∷ past) (at + sizeOf f) rest in
-    elim (ltb 0 (interval card)) [ true ↦ orRefused at (entryComputed card past (entryOf f)) next | false ↦ orRefused at (entryRefusal card past (entryOf f)) next ]
-
-unfoldable pub endStepComputed : List Field → Past → ℕ → Field → List ℕ → Step
-endStepComputed fs past at f rest =
-    let card = cardOf fs in
-    elim (ltb 0 (interval card)) [
-      | true ↦ orRefused at (endComputed card past (endOf f))
-          (closing (accepted (commandCount past) (length (countedStamps past)) (owingComputed card past (endOf f))) (at + sizeOf f) rest)
-      | false ↦ endStep fs past at f rest
-    ]
-
-unfoldable pub byHeadComputed : List Field → Past → ℕ → Head → Step
-byHeadComputed fs past at cut = ends (refused 1 0 at 0)
-byHeadComputed fs past at badTag = ends (refused 2 0 at 0)
-byHeadComputed fs past at badLength = ends (refused 3 0 at 0)
-byHeadComputed fs past at (whole f rest) = elim (eqb (f .tag) 32) [
-  | true ↦ entryStepComputed fs past at f rest
-  | false ↦ elim (eqb (f .tag) 33) [ true ↦ endStepComputed fs past at f rest | false ↦ cardStep fs past at f rest ]
-]
-
-unfoldable pub computedFrom : ℕ → List Field → Past → ℕ → List ℕ → Judged
-computedFrom zero fs past at bs = record { past = past; verdict = refused 1 0 at 0 }
-computedFrom (suc k) fs past at bs =
-    elim (byHeadComputed fs past at (headOf fs bs)) [ goesOn fs′ past′ at′ rest ↦ computedFrom k fs′ past′ at′ rest | ends v ↦ record { past = past; verdict = v } ]
-
-entry-step : (fs : List Field) (past : Past) (at : ℕ) (f : Field) (rest : List ℕ) → Rising past → entryStepComputed fs past at f rest ≡ entryStep fs past at f rest
-unfolding entryStepComputed entryStep
-entry-step fs past at f rest r = go (ltb 0 (interval (cardOf fs))) refl
-  where
-    next : Step
-    next = goesOn fs (taken (cardOf fs) past (entryOf f) ∷ past) (at + sizeOf f) rest
-
-    go : (x : Bool) → ltb 0 (interval (cardOf fs)) ≡ x →
-        elim x as (λ y. Step) [ true ↦ orRefused at (entryComputed (cardOf fs) past (entryOf f)) next | false ↦ orRefused at (entryRefusal (cardOf fs) past (entryOf f)) next ]
-        ≡ orRefused at (entryRefusal (cardOf fs) past (entryOf f)) next
-    go true p = rw (entry-computed (cardOf fs) (ltb-true 0 (interval (cardOf fs)) p) past r (entryOf f))
-    go false p = refl
-
-end-step : (fs : List Field) (past : Past) (at : ℕ) (f : Field) (rest : List ℕ) → Rising past → endStepComputed fs past at f rest ≡ endStep fs past at f rest
-unfolding endStepComputed endStep acceptedAt
-end-step fs past at f rest r = go (ltb 0 (interval (cardOf fs))) refl
-  where
-    go : (x : Bool) → ltb 0 (interval (cardOf fs)) ≡ x →
-        elim x as (λ y. Step) [
-          | true ↦ orRefused at (endComputed (cardOf fs) past (endOf f))
-              (closing (accepted (commandCount past) (length (countedStamps past)) (owingComputed (cardOf fs) past (endOf f))) (at + sizeOf f) rest)
-          | false ↦ endStep fs past at f rest
-        ]
-        ≡ endStep fs past at f rest
-    go true p =
-        let pos = ltb-true 0 (interval (cardOf fs)) p in
-        rw (end-computed (cardOf fs) pos past r (endOf f), owing-computed (cardOf fs) pos past r (endOf f))
-    go false p = refl
-
-step-computed : (fs : List Field) (past : Past) (at : ℕ) (h : Head) → Rising past → byHeadComputed fs past at h ≡ byHead fs past at h
-unfolding byHeadComputed byHead
-step-computed fs past at cut r = refl
-step-computed fs past at badTag r = refl
-step-computed fs past at badLength r = refl
-step-computed fs past at (whole f rest) r = go (eqb (f .tag) 32) (eqb (f .tag) 33)
-  where
-    go : (x y : Bool) →
-        elim x as (λ z. Step) [ true ↦ entryStepComputed fs past at f rest | false ↦ elim y as (λ z. Step) [ true ↦ endStepComputed fs past at f rest | false ↦ cardStep fs past at f rest ] ]
-        ≡ cond x (entryStep fs past at f rest) (cond y (endStep fs past at f rest) (cardStep fs past at f rest))
-    go true y = entry-step fs past at f rest r
-    go false true = end-step fs past at f rest r
-    go false false = refl
-
--- stamps go on rising
-abbrev RisingOn : Step → Type 0
-RisingOn (goesOn fs past at rest) = Rising past
-RisingOn (ends v) = Unit {0}
-
-closing-rising : (v : FileVerdict) (b : ℕ) (rest : List ℕ) → RisingOn (closing v b rest)
-unfolding closing
-closing-rising v b [] = tt
-closing-rising v b (x ∷ xs) = tt
-
-or-rising : (at : ℕ) (o : Option Refusal) (s : Step) → (o ≡ none → RisingOn s) → RisingOn (orRefused at o s)
-unfolding orRefused
-or-rising at none s h = h refl
-or-rising at (some x) s h = tt
-
-step-rising : (fs : List Field) (past : Past) (at : ℕ) (h : Head) → Rising past → RisingOn (byHead fs past at h)
-unfolding byHead entryStep endStep cardStep
-step-rising fs past at cut r = tt
-step-rising fs past at badTag r = tt
-step-rising fs past at badLength r = tt
-step-rising fs past at (whole f rest) r = go (eqb (f .tag) 32) (eqb (f .tag) 33) (fieldGood fs f)
-  where
-    go : (x y z : Bool) → RisingOn (
-        cond x (orRefused at (entryRefusal (cardOf fs) past (entryOf f)) (goesOn fs (taken (cardOf fs) past (entryOf f) ∷ past) (at + sizeOf f) rest))
-        (cond y (orRefused at (endRefusal (cardOf fs) past (endOf f)) (closing (acceptedAt fs past (endOf f)) (at + sizeOf f) rest))
-        (cond z (goesOn (f ∷ fs) past (at + sizeOf f) rest) (ends (refused 4 0 at 0))))
-        )
-    go true y z = or-rising at _ _ (λ e. rising-next (cardOf fs) past (entryOf f) r (passed-above (cardOf fs) past (entryOf f) e))
-    go false true z = or-rising at _ _ (λ e. closing-rising _ _ rest)
-    go false false true = r
-    go false false false = tt
-
-computed-from : (k : ℕ) (fs : List Field) (past : Past) (at : ℕ) (bs : List ℕ) → Rising past → computedFrom k fs past at bs ≡ fileFrom k fs past at bs
-unfolding computedFrom fileFrom stepOf
-computed-from zero fs past at bs r = refl
-computed-from (suc k) fs past at bs r =
-    ap (λ (s : Step). let j : Judged = elim s [ goesOn fs′ past′ at′ rest ↦ computedFrom k fs′ past′ at′ rest | ends v ↦ record { past = past; verdict = v } ] in j)
-    (step-computed fs past at (headOf fs bs) r)
-    ∙ (go (byHead fs past at (headOf fs bs)) (step-rising fs past at (headOf fs bs) r) (λ fs′ past′ at′ rest r′. computed-from k fs′ past′ at′ rest r′))
-  where
-    go : (s : Step) → RisingOn s →
-        ((fs′ : List Field) (past′ : Past) (at′ : ℕ) (rest : List ℕ) → Rising past′ → computedFrom k fs′ past′ at′ rest ≡ fileFrom k fs′ past′ at′ rest) →
-        Path Judged (elim s [ goesOn fs′ past′ at′ rest ↦ computedFrom k fs′ past′ at′ rest | ends v ↦ record { past = past; verdict = v } ])
-        (elim s [ goesOn fs′ past′ at′ rest ↦ fileFrom k fs′ past′ at′ rest | ends v ↦ record { past = past; verdict = v } ])
-    go (goesOn fs′ past′ at′ rest) r′ ih = ih fs′ past′ at′ rest r′
-    go (ends v) r′ ih = refl
 
 unfoldable pub computed : List ℕ → Judged
-computed bs = computedFrom (suc (length bs)) [] [] 0 bs
+computed = judgedBy computing
+
+-- ---- it stands for its past
+from-last : (past : Past) (t : ℕ) → NotBelow past t → lastCycle past ≤ t
+unfolding NotBelow lastCycle
+from-last [] t h = omega arith
+from-last (e ∷ p) t h = h
+
+not-below : (past : Past) (t : ℕ) → Above past t → NotBelow past t
+unfolding NotBelow Above
+not-below [] t h = tt
+not-below (e ∷ p) t h = omega arith
+
+module _ (card : Card) (good : cardGood card ≡ true) where
+  positive : 0 < beatOf card .span
+  unfolding beatOf every
+  positive = interval-positive card good
+
+  module _ (past : Past) (all : AllTaken card past) where
+    abbrev here : Ledger
+    here = ledgerAt card past (lastCycle past)
+
+    owing-here : owingGood (here .owing) ≡ true
+    unfolding firstOn
+    owing-here = owing-good (bookOf card past) (lastCycle past) (orElse-none _ _ (paid-through card past all) .1)
+
+    closed-at : (t : ℕ) → lastCycle past ≤ t → ledgerClosed (beatOf card) here t ≡ ledgerAt card past t
+    closed-at t h = sym (ledger-closed (beatOf card) here positive owing-here t) ∙ moved-on card past (lastCycle past) (omega arith) (below-last past (rising card past all)) t h
+
+    failing-at : (t : ℕ) → lastCycle past ≤ t → failingClosed (beatOf card) here t ≡ firstOn lpddr3 (bookOf card past) t
+    failing-at t h =
+        sym (failing-closed (beatOf card) here positive owing-here t)
+        ∙ failing-to card past (lastCycle past) (omega arith) (below-last past (rising card past all)) (paid-through card past all) t h
+
+    then-at : (e : Entry) → Above past (e .stamp) →
+        ledgerThen card (effectOf (readAfter card past e) (counterAt past) (levelAt past)) (e .stamp) here ≡ ledgerAt card (pastWith card past e) (e .stamp)
+    unfolding ledgerThen effectOf
+    then-at e a = rw (closed-at (e .stamp) (from-last past (e .stamp) (not-below past (e .stamp) a))) (entered-with card past e (rising card past all) (orderly card past all) a)
+
+  over-is : (past : Past) → AllTaken card past → ledgerOver card past ≡ ledgerAt card past (lastCycle past)
+  unfolding ledgerOver AllTaken lastCycle
+  over-is [] all = sym (ap (λ (l : Lent). l .share .ledger) (fresh-stands card)) ∙ (unfold standing shareOf standsAt lastCycle in refl)
+  over-is (x ∷ t) all =
+      let e = all .0 .0 in
+      rw (all .0 .1, over-is t (all .1)) (unfold taken effectOf pastWith in then-at t (all .1) e (passed card t e (all .0 .2) .above))
+
+  module _ (past : Past) (all : AllTaken card past) where
+    entry-computed : (e : Entry) → entryFrom card past (ledgerOver card past) e ≡ entryRefusal card past e
+    unfolding entryFrom entryRefusal entryChecks booksOf
+    entry-computed e =
+        rw (over-is past all, first-one lpddr3 (bookOf card past) (e .stamp), failing-one lpddr3 (bookOf card (pastWith card past e)) (e .stamp)) (go (above past (e .stamp)) refl)
+      where
+        failing-then : Above past (e .stamp) →
+            failingOf (beatOf card) (ledgerThen card (effectOf (readAfter card past e) (counterAt past) (levelAt past)) (e .stamp) (ledgerAt card past (lastCycle past)))
+            ≡ failingOn lpddr3 (bookOf card (pastWith card past e)) (e .stamp)
+        failing-then a = rw (then-at past all e a) (unfold failingOf in rw (number-at card (pastWith card past e) (e .stamp)) (unfold failingOn sinceOn bookOf scheduleOf in refl))
+
+        go : (x : Bool) → above past (e .stamp) ≡ x →
+            firstOf (
+            checks card (delaysOf card) (viewOf card past) (above past (e .stamp)) (failingClosed (beatOf card) (ledgerAt card past (lastCycle past)) (e .stamp))
+            (failingOf (beatOf card) (ledgerThen card (effectOf (readAfter card past e) (counterAt past) (levelAt past)) (e .stamp) (ledgerAt card past (lastCycle past))))
+            (readAfter card past e) (e .stamp)
+            )
+            ≡ firstOf (
+            checks card (delaysOf card) (viewOf card past) (above past (e .stamp)) (firstOn lpddr3 (bookOf card past) (e .stamp))
+            (failingOn lpddr3 (bookOf card (pastWith card past e)) (e .stamp)) (readAfter card past e) (e .stamp)
+            )
+        go false a = rw a (unfold checks unless firstOf orElse in refl)
+        go true a =
+            let h = above-iff past (e .stamp) .0 a in
+            rw (failing-at past all (e .stamp) (from-last past (e .stamp) (not-below past (e .stamp) h)), failing-then h)
+
+    end-computed : (end : ℕ) → endFrom card past (ledgerOver card past) end ≡ endRefusal card past end
+    unfolding endFrom endRefusal endChecks booksOf
+    end-computed end = rw (over-is past all, first-one lpddr3 (bookOf card past) (suc end)) (go (notBelow past end) refl)
+      where
+        go : (x : Bool) → notBelow past end ≡ x →
+            firstOf (unless (notBelow past end) 5 ∷ named 11 (failingClosed (beatOf card) (ledgerAt card past (lastCycle past)) (suc end)) ∷ [])
+            ≡ firstOf (unless (notBelow past end) 5 ∷ named 11 (firstOn lpddr3 (bookOf card past) (suc end)) ∷ [])
+        go false a = rw a (unfold unless firstOf orElse in refl)
+        go true a = let h = from-last past end (not-below-iff past end .0 a) in rw (failing-at past all (suc end) (omega arith))
+
+    owing-computed : (end : ℕ) → endRefusal card past end ≡ none → ledgerClosed (beatOf card) (ledgerOver card past) end .owing ∷ [] ≡ ledgersAt card past end
+    unfolding endRefusal endChecks firstOf ledgersAt booksOf
+    owing-computed end n =
+        let h = from-last past end (not-below-iff past end .0 (unless-none _ 5 (orElse-none _ _ n .0))) in
+        rw (over-is past all) (ap (λ (g : Ledger). g .owing ∷ []) (closed-at past all end h) ∙ refl)
+
+-- ---- a file
+record At (fs : List Field) (past : Past) (at : ℕ) (bs : List ℕ) : Type 0 where
+  right : CardRight fs
+  behind : begun past ≡ true → cardWhole fs ≡ true
+  all : AllTaken (cardOf fs) past
+
+-- an entry and the end come behind a whole card
+whole-before : (b : Bool) (fs : List Field) → CardRight fs → (t : ℕ) → 31 < t → mayCome b fs t ≡ true → cardWhole fs ≡ true
+unfolding mayCome mayFollow cardWhole
+whole-before b fs r t l m = go (cardWhole fs) refl
+  where
+    go : (x : Bool) → cardWhole fs ≡ x → cardWhole fs ≡ true
+    go true w = w
+    go false w = absurd (never (eqb-true t (suc _) (unfold cardWhole in rw w at m)) (next-small fs r w))
+      where
+        never : {n : ℕ} → t ≡ suc n → suc n < 32 → ⊥
+        never e k = omega arith
+
+card-on : (fs : List Field) (past : Past) (at : ℕ) (bs : List ℕ) → At fs past at bs → (f : Field) (rest : List ℕ) → mayCome (begun past) fs (f .tag) ≡ true → Sized f →
+    ofTrace (f .tag) ≡ false → fieldGood fs f ≡ true → At (f ∷ fs) past (at + sizeOf f) rest
+card-on fs [] at bs a f rest m s o g = record {
+  right = unfold CardRight begun in (record { tag = m; size = s .size; whole = s .whole }, o, g, a .right);
+  behind = λ b. let q : false ≡ true = unfold begun in b in let z : _≡_ {A = ℕ} 0 1 = cc in absurd (omega arith);
+  all = unfold AllTaken in tt;
+}
+card-on fs (e ∷ p) at bs a f rest m s o g =
+    absurd (no-more fs f (unfold begun in record { tag = m; size = s .size; whole = s .whole }) (a .behind (unfold begun in refl)) o)
+
+agrees : (fs : List Field) (past : Past) (at : ℕ) (bs : List ℕ) → At fs past at bs → Here computing defined At (λ j. ⊥) fs past at bs
+unfolding computing defined
+agrees fs past at bs a = kept (record {
+  agrees = record {
+    come = λ t rest e. refl;
+    entry = λ m. entry-computed (cardOf fs) (good 32 (omega arith) m) past (a .all);
+    next = λ m e. refl;
+    end = λ m. end-computed (cardOf fs) (good 33 (omega arith) m) past (a .all);
+    verdict = λ m end n. rw (owing-computed (cardOf fs) (good 33 (omega arith) m) past (a .all) end n);
+  };
+  card = λ f rest e. card-on fs past at bs a f rest;
+  entry = λ f rest m n. record {
+    right = a .right;
+    behind = λ b. whole-before (begun past) fs (a .right) 32 (omega arith) m;
+    all = unfold AllTaken pastWith in ((entryOf f, refl, n), a .all);
+  };
+})
+  where
+    good : (t : ℕ) → 31 < t → mayCome (begun past) fs t ≡ true → cardGood (cardOf fs) ≡ true
+    good t l m = card-good fs (a .right) (whole-before (begun past) fs (a .right) t l m)
 
 pub computed-judged : (bs : List ℕ) → computed bs ≡ judged bs
-unfolding computed judged Rising
-computed-judged bs = computed-from (suc (length bs)) [] [] 0 bs tt
+unfolding computed
+computed-judged bs = ⊎-elim (λ (e : judgedBy computing bs ≡ judgedBy defined bs). e ∙ defined-judged bs) (λ (n : ⊥). absurd n)
+    (agree computing defined At (λ j. ⊥) agrees bs (record {
+      right = unfold CardRight in tt;
+      behind = λ b. let q : false ≡ true = unfold begun in b in let z : _≡_ {A = ℕ} 0 1 = cc in absurd (omega arith);
+      all = unfold AllTaken in tt;
+    }))

@@ -10,6 +10,7 @@ use native.Mathlib.Omega.{arith}
 use lib.Dec.{leb, ltb, eqb}
 use borrow.Author.Tests.{lt-ltb, le-leb, lt-leb, ne-eqb}
 use Rattle.rules.specs.Lists.{isOneOf}
+use Rattle.rules.specs.Account.{Schedule, every, steady}
 use Rattle.rules.specs.Stretch.{countIn}
 use Rattle.rules.proofs.Tests.{lt-cases, eq-cases}
 use Rattle.rules.proofs.Biased.{owed}
@@ -48,21 +49,30 @@ unfolding below isOneOf
 below-step n [] = omega arith
 below-step n (s ∷ cs) = below-cons n s cs (below-step n cs)
 
-module _ (k I : ℕ) (cs : List ℕ) where
-  owed-step : (t : ℕ) → owed k I cs t + below t cs + dues I (suc t) ≤ owed k I cs (suc t) + below (suc t) cs + dues I t
+module _ (k : ℕ) (s : Schedule) (cs : List ℕ) where
+  owed-step : (t : ℕ) → owed k s cs t + below t cs + dues s (suc t) ≤ owed k s cs (suc t) + below (suc t) cs + dues s t
   unfolding owed dues
   owed-step t = omega (arith, below-step t cs)
 
-  owed-over : (a L : ℕ) → owed k I cs a + below a cs + dues I (a + L) ≤ owed k I cs (a + L) + below (a + L) cs + dues I a
+  owed-over : (a L : ℕ) → owed k s cs a + below a cs + dues s (a + L) ≤ owed k s cs (a + L) + below (a + L) cs + dues s a
   owed-over a zero = rw add-zero (omega arith)
   owed-over a (suc L) = rw add-suc (omega (arith, owed-step (a + L), owed-over a L))
 
-  by-start : (a L : ℕ) → 0 < k → 0 < I → L / I + dues I a ≤ dues I (a + L) + owed k I cs a
-  unfolding owed dues
-  by-start zero L hk h = rw zero-add (omega (arith, dues-first I L h))
-  by-start (suc a) L hk h = omega (arith, dues-later I a L h)
+-- by the positive multiples of I
+module _ (k I : ℕ) (cs : List ℕ) where
+  abbrev s : Schedule
+  s = steady (every I)
 
-  pub counted-in : (m a L : ℕ) → 0 < k → owed k I cs (a + L) ≤ k + m → L / I ≤ countIn a (a + L) cs + (k + m)
+  by-start : (a L : ℕ) → 0 < k → 0 < I → L / I + dues s a ≤ dues s (a + L) + owed k s cs a
+  by-start zero L hk h = rw zero-add (unfold owed dues in omega (arith, dues-first s I L h (λ m l. refl)))
+  by-start (suc a) L hk h =
+      let z : suc a + L ≡ suc (a + L) = omega arith in
+      rw z (omega (arith, dues-on-multiples a L h))
+    where
+      dues-on-multiples : (a L : ℕ) → 0 < I → L / I + dues s (suc a) ≤ dues s (suc (a + L))
+      dues-on-multiples a L h = unfold every in dues-later (steady (every I)) (every I) (unfold every in h) a L (unfold every in omega arith) (λ m l g. refl)
+
+  pub counted-in : (m a L : ℕ) → 0 < k → owed k s cs (a + L) ≤ k + m → L / I ≤ countIn a (a + L) cs + (k + m)
   counted-in m a L hk le = ⊎-elim none-due positive (zero-or I)
     where
       zero-or : (n : ℕ) → (n ≡ 0) ⊎ (0 < n)
@@ -73,4 +83,4 @@ module _ (k I : ℕ) (cs : List ℕ) where
       none-due e = rw (e, div-zero) (omega arith)
 
       positive : 0 < I → L / I ≤ countIn a (a + L) cs + (k + m)
-      positive h = omega (arith, count-below a (a + L) (omega arith) cs, owed-over a L, by-start a L hk h)
+      positive h = omega (arith, count-below a (a + L) (omega arith) cs, owed-over k s cs a L, by-start a L hk h)

@@ -3,7 +3,7 @@ use Prim.Native.Nat.{ℕ, zero, suc, _*_, _-_, _≤_, _<_}
 use mathlib.Core.Path.{_≡_, refl, ap, sym, _∙_, subst}
 use mathlib.Core.Logic.{_⊎_, inl, inr, ⊎-elim, _↔_}
 use mathlib.Core.Bool.{Bool, true, false, not}
-use mathlib.Core.List.{List, [], _∷_}
+use mathlib.Core.List.{List, [], _∷_, map}
 use mathlib.Core.Option.{Option, none, some}
 use native.Mathlib.Omega.{arith}
 use lib.Dec.{T, leb, ltb}
@@ -11,11 +11,12 @@ use lib.IntN.{ℤ, pos}
 use lib.Signed.{leZ, _≤ℤ_}
 use borrow.Author.Tests.{ltb-true, lt-ltb, leb-true, le-leb}
 use Rattle.rules.specs.Lists.{Every}
-use Rattle.rules.specs.Pins.{Decoded, good, wrongBits, reserved}
+use Rattle.rules.specs.Pins.{good, wrongBits, reserved}
+use Rattle.rules.specs.Levels.{Read, plain, moved, asleep, barred}
 use Rattle.rules.specs.Past.{Past}
 use Rattle.rules.specs.Folds.{Found, Rule, orElse, firstOf, bound, firstBroken}
-use Rattle.rules.specs.Account.{Terms, ledgerAfter, lastCounted, failing, failingAt, firstFailing}
-use Rattle.rules.specs.Checks.{Refusal, refusal, unless, named, isWrong, isReserved, above, notBelow}
+use Rattle.rules.specs.Account.{Terms, failing, Book, ledgerOn, sinceOn, failingOn, firstOn, failingIn, firstIn}
+use Rattle.rules.specs.Checks.{Refusal, refusal, unless, named, isWrong, isReserved, isBarred, above, notBelow}
 use Rattle.rules.specs.Reading.{
   Check,
   AllPass,
@@ -30,6 +31,8 @@ use Rattle.rules.specs.Reading.{
   WithinGap,
   Paid,
   Unpaid,
+  EachPaid,
+  FirstUnpaid,
   paidAt,
   paidBelow,
 }
@@ -60,6 +63,11 @@ pub unless-none : (b : Bool) (k : ℕ) → unless b k ≡ none → b ≡ true
 unfolding unless
 unless-none true k e = refl
 unless-none false k e = absurd (some-none (sym e))
+
+pub or-assoc {ℓ} : {A : Type ℓ} (x y z : Option A) → orElse (orElse x y) z ≡ orElse x (orElse y z)
+unfolding orElse
+or-assoc none y z = refl
+or-assoc (some a) y z = refl
 
 pub named-none : (k : ℕ) (o : Option (ℕ × ℕ)) → named k o ≡ none → o ≡ none
 unfolding named
@@ -92,17 +100,30 @@ unfolding notBelow NotBelow
 not-below-iff [] t = (λ e. tt, λ h. refl)
 not-below-iff (e ∷ p) t = (leb-true (e .stamp) t, le-leb (e .stamp) t)
 
-pub not-wrong : (d : Decoded) → (not (isWrong d) ≡ true) ↔ (¬ (d ≡ wrongBits))
+pub not-wrong : (r : Read) → (not (isWrong r) ≡ true) ↔ (¬ (r ≡ plain wrongBits))
 unfolding isWrong
-not-wrong (good c) = (λ e q. let z : _≡_ {A = ℕ} 0 1 = cc in omega arith, λ f. refl)
-not-wrong wrongBits = (λ e q. let z : _≡_ {A = ℕ} 0 1 = cc in omega arith, λ f. absurd (f refl))
-not-wrong reserved = (λ e q. let z : _≡_ {A = ℕ} 0 1 = cc in omega arith, λ f. refl)
+not-wrong (plain (good c)) = (λ e q. let z : _≡_ {A = ℕ} 0 1 = cc in omega arith, λ f. refl)
+not-wrong (plain wrongBits) = (λ e q. let z : _≡_ {A = ℕ} 0 1 = cc in omega arith, λ f. absurd (f refl))
+not-wrong (plain reserved) = (λ e q. let z : _≡_ {A = ℕ} 0 1 = cc in omega arith, λ f. refl)
+not-wrong (moved m) = (λ e q. let z : _≡_ {A = ℕ} 0 1 = cc in omega arith, λ f. refl)
+not-wrong asleep = (λ e q. let z : _≡_ {A = ℕ} 0 1 = cc in omega arith, λ f. refl)
+not-wrong barred = (λ e q. let z : _≡_ {A = ℕ} 0 1 = cc in omega arith, λ f. refl)
 
-pub not-reserved : (d : Decoded) → (not (isReserved d) ≡ true) ↔ (¬ (d ≡ reserved))
+pub not-reserved : (r : Read) → (not (isReserved r) ≡ true) ↔ (¬ (r ≡ plain reserved))
 unfolding isReserved
-not-reserved (good c) = (λ e q. let z : _≡_ {A = ℕ} 0 1 = cc in omega arith, λ f. refl)
-not-reserved wrongBits = (λ e q. let z : _≡_ {A = ℕ} 0 1 = cc in omega arith, λ f. refl)
-not-reserved reserved = (λ e q. let z : _≡_ {A = ℕ} 0 1 = cc in omega arith, λ f. absurd (f refl))
+not-reserved (plain (good c)) = (λ e q. let z : _≡_ {A = ℕ} 0 1 = cc in omega arith, λ f. refl)
+not-reserved (plain wrongBits) = (λ e q. let z : _≡_ {A = ℕ} 0 1 = cc in omega arith, λ f. refl)
+not-reserved (plain reserved) = (λ e q. let z : _≡_ {A = ℕ} 0 1 = cc in omega arith, λ f. absurd (f refl))
+not-reserved (moved m) = (λ e q. let z : _≡_ {A = ℕ} 0 1 = cc in omega arith, λ f. refl)
+not-reserved asleep = (λ e q. let z : _≡_ {A = ℕ} 0 1 = cc in omega arith, λ f. refl)
+not-reserved barred = (λ e q. let z : _≡_ {A = ℕ} 0 1 = cc in omega arith, λ f. refl)
+
+pub not-barred : (r : Read) → (not (isBarred r) ≡ true) ↔ (¬ (r ≡ barred))
+unfolding isBarred
+not-barred (plain d) = (λ e q. let z : _≡_ {A = ℕ} 0 1 = cc in omega arith, λ f. refl)
+not-barred (moved m) = (λ e q. let z : _≡_ {A = ℕ} 0 1 = cc in omega arith, λ f. refl)
+not-barred asleep = (λ e q. let z : _≡_ {A = ℕ} 0 1 = cc in omega arith, λ f. refl)
+not-barred barred = (λ e q. let z : _≡_ {A = ℕ} 0 1 = cc in omega arith, λ f. absurd (f refl))
 
 -- ---- the delay rules
 module _ {Q X : Type 0} (look : Q → Option (Found X)) where
@@ -166,141 +187,195 @@ leZ-cases a b = go (leZ a b) refl
     go true e = inl (record { le = subst T (sym e) tt }, e)
     go false e = inr (λ h. subst T e (h .le), e)
 
-module _ (k : Terms) (I : ℕ) (cs : List ℕ) where
+module _ (k : Terms) (b : Book) where
+  abbrev Gap : ℕ → ℕ
+  Gap t = b .clock t - sinceOn b t
+
+  abbrev Most : ℕ → ℕ
+  Most t = k .gap * b .schedule .span (b .clock t)
+
   -- at one cycle
   data Outcome (t : ℕ) : Type 0 where
-    over : ¬ WithinLimit k I cs t → failingAt k I cs t ≡ some (k .limitRule, t) → Outcome t
-    long : WithinLimit k I cs t → ¬ WithinGap k I cs t → failingAt k I cs t ≡ some (k .gapRule, t) → Outcome t
-    fine : Paid k I cs t → failingAt k I cs t ≡ none → Outcome t
+    over : ¬ WithinLimit k b t → failingOn k b t ≡ some (k .limitRule, t) → Outcome t
+    long : WithinLimit k b t → ¬ WithinGap k b t → failingOn k b t ≡ some (k .gapRule, t) → Outcome t
+    fine : Paid k b t → failingOn k b t ≡ none → Outcome t
 
   outcome : (t : ℕ) → Outcome t
-  unfolding failingAt failing WithinLimit WithinGap
+  unfolding failingOn failing sinceOn WithinLimit WithinGap
   outcome t = ⊎-elim
-      (λ (p : (ledgerAfter (k .credit) I cs t ≤ℤ pos (k .limit)) × (leZ (ledgerAfter (k .credit) I cs t) (pos (k .limit)) ≡ true)). ⊎-elim
-      (λ (q : (t - lastCounted cs t ≤ k .gap * I) × (leb (t - lastCounted cs t) (k .gap * I) ≡ true)).
+      (λ (p : (ledgerOn (k .credit) b t ≤ℤ pos (k .limit)) × (leZ (ledgerOn (k .credit) b t) (pos (k .limit)) ≡ true)). ⊎-elim
+      (λ (q : (Gap t ≤ Most t) × (leb (Gap t) (Most t) ≡ true)).
       fine (record { limit = p .0; gap = q .0 }) (rw (p .1, q .1)))
-      (λ (q : (k .gap * I < t - lastCounted cs t) × (leb (t - lastCounted cs t) (k .gap * I) ≡ false)).
+      (λ (q : (Most t < Gap t) × (leb (Gap t) (Most t) ≡ false)).
       long (p .0) (λ h. clash h (q .0)) (rw (p .1, q .1)))
-      (le-cases (t - lastCounted cs t) (k .gap * I)))
-      (λ (p : (¬ (ledgerAfter (k .credit) I cs t ≤ℤ pos (k .limit))) × (leZ (ledgerAfter (k .credit) I cs t) (pos (k .limit)) ≡ false)).
+      (le-cases (Gap t) (Most t)))
+      (λ (p : (¬ (ledgerOn (k .credit) b t ≤ℤ pos (k .limit))) × (leZ (ledgerOn (k .credit) b t) (pos (k .limit)) ≡ false)).
       over (p .0) (rw (p .1)))
-      (leZ-cases (ledgerAfter (k .credit) I cs t) (pos (k .limit)))
+      (leZ-cases (ledgerOn (k .credit) b t) (pos (k .limit)))
     where
-      clash : t - lastCounted cs t ≤ k .gap * I → k .gap * I < t - lastCounted cs t → ⊥
+      clash : Gap t ≤ Most t → Most t < Gap t → ⊥
       clash h l = omega arith
 
-  pub paid-iff : (t : ℕ) → (failingAt k I cs t ≡ none) ↔ Paid k I cs t
+  pub paid-iff : (t : ℕ) → (failingOn k b t ≡ none) ↔ Paid k b t
   paid-iff t = go (outcome t)
     where
-      go : Outcome t → (failingAt k I cs t ≡ none) ↔ Paid k I cs t
+      go : Outcome t → (failingOn k b t ≡ none) ↔ Paid k b t
       go (over n e) = (λ q. absurd (some-none (sym q ∙ e)), λ p. absurd (n (p .limit)))
       go (long l n e) = (λ q. absurd (some-none (sym q ∙ e)), λ p. absurd (n (p .gap)))
       go (fine p e) = (λ q. p, λ q. e)
 
-  unpaid-iff : (t : ℕ) (x : Refusal) → (named 11 (failingAt k I cs t) ≡ some x) ↔ Unpaid k I cs t x
+  unpaid-iff : (t : ℕ) (x : Refusal) → (named 11 (failingOn k b t) ≡ some x) ↔ Unpaid k b t x
   unfolding Unpaid named
   unpaid-iff t x = go (outcome t)
     where
       Unpaid-so : Type 0
-      Unpaid-so = ((¬ WithinLimit k I cs t) × (x ≡ refusal 11 (k .limitRule) t)) ⊎
-          (WithinLimit k I cs t × (¬ WithinGap k I cs t) × (x ≡ refusal 11 (k .gapRule) t))
+      Unpaid-so = ((¬ WithinLimit k b t) × (x ≡ refusal 11 (k .limitRule) t)) ⊎
+          (WithinLimit k b t × (¬ WithinGap k b t) × (x ≡ refusal 11 (k .gapRule) t))
 
-      go : Outcome t → (named 11 (failingAt k I cs t) ≡ some x) ↔ Unpaid-so
+      go : Outcome t → (named 11 (failingOn k b t) ≡ some x) ↔ Unpaid-so
       go (over n e) = (λ q. let q′ : some (refusal 11 (k .limitRule) t) ≡ some x = rw e at q in inl (n, cc), back)
         where
-          back : Unpaid-so → named 11 (failingAt k I cs t) ≡ some x
+          back : Unpaid-so → named 11 (failingOn k b t) ≡ some x
           back (inl u) = rw e (ap some (sym (u .1)))
           back (inr u) = absurd (n (u .0))
       go (long l n e) = (λ q. let q′ : some (refusal 11 (k .gapRule) t) ≡ some x = rw e at q in inr (l, n, cc), back)
         where
-          back : Unpaid-so → named 11 (failingAt k I cs t) ≡ some x
+          back : Unpaid-so → named 11 (failingOn k b t) ≡ some x
           back (inl u) = absurd (u .0 l)
           back (inr u) = rw e (ap some (sym (u .2)))
       go (fine p e) = (λ q. let q′ : none ≡ some x = rw e at q in absurd (some-none q′), back)
         where
-          back : Unpaid-so → named 11 (failingAt k I cs t) ≡ some x
+          back : Unpaid-so → named 11 (failingOn k b t) ≡ some x
           back (inl u) = absurd (u .0 (p .limit))
           back (inr u) = absurd (u .1 (p .gap))
 
-  pub decides-at : (t : ℕ) → Decides (named 11 (failingAt k I cs t)) (paidAt k I cs t)
+-- ---- several books
+module _ (k : Terms) where
+  each-paid : (bs : List Book) (t : ℕ) → (failingIn k bs t ≡ none) ↔ EachPaid k bs t
+  unfolding failingIn firstOf EachPaid Every
+  each-paid [] t = (λ e. tt, λ h. refl)
+  each-paid (b ∷ bs) t = (
+    λ e. let q = orElse-none (failingOn k b t) (firstOf (map (λ b. failingOn k b t) bs)) e in (paid-iff k b t .0 (q .0), each-paid bs t .0 (q .1)),
+    λ h. none-orElse (paid-iff k b t .1 (h .0)) (each-paid bs t .1 (h .1)),
+  )
+
+  first-unpaid : (bs : List Book) (t : ℕ) (x : Refusal) → (named 11 (failingIn k bs t) ≡ some x) ↔ FirstUnpaid k bs t x
+  unfolding failingIn firstOf FirstUnpaid orElse named
+  first-unpaid [] t x = (λ e. absurd (some-none e), λ h. absurd h)
+  first-unpaid (b ∷ bs) t x = go (failingOn k b t) refl (first-unpaid bs t x)
+    where
+      later : Option (ℕ × ℕ)
+      later = firstOf (map (λ b. failingOn k b t) bs)
+
+      go : (o : Option (ℕ × ℕ)) → failingOn k b t ≡ o → (named 11 later ≡ some x) ↔ FirstUnpaid k bs t x →
+          (named 11 (orElse (failingOn k b t) later) ≡ some x) ↔ (Unpaid k b t x ⊎ (Paid k b t × FirstUnpaid k bs t x))
+      go none e ih = (λ q. inr (paid-iff k b t .0 e, ih .0 (rw e at q)), back)
+        where
+          back : Unpaid k b t x ⊎ (Paid k b t × FirstUnpaid k bs t x) → named 11 (orElse (failingOn k b t) later) ≡ some x
+          back (inl u) = let z : named 11 none ≡ some x = rw e at (unpaid-iff k b t x .1 u) in absurd (some-none z)
+          back (inr u) = rw e (ih .1 (u .1))
+      go (some g) e ih = (λ q. inl (unpaid-iff k b t x .0 (rw e (rw e at q))), back)
+        where
+          back : Unpaid k b t x ⊎ (Paid k b t × FirstUnpaid k bs t x) → named 11 (orElse (failingOn k b t) later) ≡ some x
+          back (inl u) = let z : named 11 (some g) ≡ some x = rw e at (unpaid-iff k b t x .1 u) in rw e z
+          back (inr u) = absurd (some-none (sym (paid-iff k b t .1 (u .0)) ∙ e))
+
+module _ (k : Terms) (bs : List Book) where
+  each-iff : (t : ℕ) → (failingIn k bs t ≡ none) ↔ EachPaid k bs t
+  each-iff = each-paid k bs
+
+  first-iff : (t : ℕ) (x : Refusal) → (named 11 (failingIn k bs t) ≡ some x) ↔ FirstUnpaid k bs t x
+  first-iff = first-unpaid k bs
+
+  pub decides-at : (t : ℕ) → Decides (named 11 (failingIn k bs t)) (paidAt k bs t)
   unfolding paidAt
   decides-at t = record {
-    passing = (λ e. paid-iff t .0 (named-none 11 _ e), λ h. none-named 11 _ (paid-iff t .1 h));
-    failing-so = unpaid-iff t;
+    passing = (λ e. each-iff t .0 (named-none 11 _ e), λ h. none-named 11 _ (each-iff t .1 h));
+    failing-so = first-iff t;
   }
 
   -- below a cycle
-  pub all-paid : (n : ℕ) → (firstFailing k I cs n ≡ none) ↔ ((t : ℕ) → t < n → Paid k I cs t)
-  unfolding firstFailing
+  pub all-paid : (n : ℕ) → (firstIn k bs n ≡ none) ↔ ((t : ℕ) → t < n → EachPaid k bs t)
+  unfolding firstIn
   all-paid zero = (λ e t h. absurd (nowhere h), λ h. refl)
     where
       nowhere : {t : ℕ} → t < 0 → ⊥
       nowhere h = omega arith
-  all-paid (suc n) = (forth (all-paid n .0), λ p. none-orElse (all-paid n .1 (λ t h. p t (omega arith))) (paid-iff n .1 (p n (omega arith))))
+  all-paid (suc n) = (forth (all-paid n .0), λ p. none-orElse (all-paid n .1 (λ t h. p t (omega arith))) (each-iff n .1 (p n (omega arith))))
     where
       last : {t : ℕ} → t < suc n → n ≤ t → n ≡ t
       last h l = omega arith
 
-      forth : (firstFailing k I cs n ≡ none → (t : ℕ) → t < n → Paid k I cs t) →
-          orElse (firstFailing k I cs n) (failingAt k I cs n) ≡ none → (t : ℕ) → t < suc n → Paid k I cs t
+      forth : (firstIn k bs n ≡ none → (t : ℕ) → t < n → EachPaid k bs t) →
+          orElse (firstIn k bs n) (failingIn k bs n) ≡ none → (t : ℕ) → t < suc n → EachPaid k bs t
       forth ih e t h = ⊎-elim
           (λ (q : (t < n) × (ltb t n ≡ true)). ih (orElse-none _ _ e .0) t (q .0))
-          (λ (q : (n ≤ t) × (ltb t n ≡ false)). subst (Paid k I cs) (last h (q .0)) (paid-iff n .0 (orElse-none _ _ e .1)))
+          (λ (q : (n ≤ t) × (ltb t n ≡ false)). subst (EachPaid k bs) (last h (q .0)) (each-iff n .0 (orElse-none _ _ e .1)))
           (lt-cases t n)
 
-  some-below : (n : ℕ) (x : Refusal) → (named 11 (firstFailing k I cs n) ≡ some x) ↔ (paidBelow k I cs n .fails x)
-  unfolding firstFailing paidBelow named orElse
+  some-below : (n : ℕ) (x : Refusal) → (named 11 (firstIn k bs n) ≡ some x) ↔ (paidBelow k bs n .fails x)
+  unfolding firstIn paidBelow named orElse
   some-below zero x = (λ e. absurd (some-none e), λ h. absurd (nowhere (h .1)))
     where
       nowhere : {u : ℕ} → u < 0 → ⊥
       nowhere h = omega arith
-  some-below (suc n) x = go (firstFailing k I cs n) refl (some-below n x)
+  some-below (suc n) x = go (firstIn k bs n) refl (some-below n x)
     where
       Below : ℕ → Type 0
-      Below m = (u : ℕ) × (u < m) × ((v : ℕ) → v < u → Paid k I cs v) × Unpaid k I cs u x
+      Below m = (u : ℕ) × (u < m) × ((v : ℕ) → v < u → EachPaid k bs v) × FirstUnpaid k bs u x
 
       last : {u : ℕ} → u < suc n → n ≤ u → u ≡ n
       last h l = omega arith
 
-      go : (o : Option (ℕ × ℕ)) → firstFailing k I cs n ≡ o → (named 11 (firstFailing k I cs n) ≡ some x) ↔ Below n →
-          (named 11 (orElse (firstFailing k I cs n) (failingAt k I cs n)) ≡ some x) ↔ Below (suc n)
+      go : (o : Option (ℕ × ℕ)) → firstIn k bs n ≡ o → (named 11 (firstIn k bs n) ≡ some x) ↔ Below n →
+          (named 11 (orElse (firstIn k bs n) (failingIn k bs n)) ≡ some x) ↔ Below (suc n)
       go none e ih = (forth, back)
         where
-          forth : named 11 (orElse (firstFailing k I cs n) (failingAt k I cs n)) ≡ some x → Below (suc n)
+          forth : named 11 (orElse (firstIn k bs n) (failingIn k bs n)) ≡ some x → Below (suc n)
           forth q =
-              let q′ : named 11 (failingAt k I cs n) ≡ some x = rw e at q in
-              (n, omega arith, all-paid n .0 e, unpaid-iff n x .0 q′)
+              let q′ : named 11 (failingIn k bs n) ≡ some x = rw e at q in
+              (n, omega arith, all-paid n .0 e, first-iff n x .0 q′)
 
-          back : Below (suc n) → named 11 (orElse (firstFailing k I cs n) (failingAt k I cs n)) ≡ some x
+          back : Below (suc n) → named 11 (orElse (firstIn k bs n) (failingIn k bs n)) ≡ some x
           back h = ⊎-elim
               (λ (l : (h .0 < n) × (ltb (h .0) n ≡ true)).
               let q : none ≡ some x = rw e at (ih .1 (h .0, l .0, h .2, h .3)) in absurd (some-none q))
               (λ (l : (n ≤ h .0) × (ltb (h .0) n ≡ false)).
-              rw e (unpaid-iff n x .1 (subst (λ (u : ℕ). Unpaid k I cs u x) (last (h .1) (l .0)) (h .3))))
+              rw e (first-iff n x .1 (subst (λ (u : ℕ). FirstUnpaid k bs u x) (last (h .1) (l .0)) (h .3))))
               (lt-cases (h .0) n)
       go (some g) e ih = (forth, back)
         where
-          forth : named 11 (orElse (firstFailing k I cs n) (failingAt k I cs n)) ≡ some x → Below (suc n)
+          forth : named 11 (orElse (firstIn k bs n) (failingIn k bs n)) ≡ some x → Below (suc n)
           forth q =
               let q′ : named 11 (some g) ≡ some x = rw e at q in
-              let b = ih .0 (rw e q′) in
-              (b .0, omega (arith, b .1), b .2, b .3)
+              let y = ih .0 (rw e q′) in
+              (y .0, omega (arith, y .1), y .2, y .3)
 
-          back : Below (suc n) → named 11 (orElse (firstFailing k I cs n) (failingAt k I cs n)) ≡ some x
+          back : Below (suc n) → named 11 (orElse (firstIn k bs n) (failingIn k bs n)) ≡ some x
           back h = ⊎-elim
               (λ (l : (h .0 < n) × (ltb (h .0) n ≡ true)).
               let q : named 11 (some g) ≡ some x = rw e at (ih .1 (h .0, l .0, h .2, h .3)) in rw e q)
               (λ (l : (n ≤ h .0) × (ltb (h .0) n ≡ false)).
-              let q : firstFailing k I cs n ≡ none = all-paid n .1 (λ t m. h .2 t (omega arith)) in
+              let q : firstIn k bs n ≡ none = all-paid n .1 (λ t m. h .2 t (omega arith)) in
               absurd (some-none (sym q ∙ e)))
               (lt-cases (h .0) n)
 
-  pub decides-below : (n : ℕ) → Decides (named 11 (firstFailing k I cs n)) (paidBelow k I cs n)
+  pub decides-below : (n : ℕ) → Decides (named 11 (firstIn k bs n)) (paidBelow k bs n)
   unfolding paidBelow
   decides-below n = record {
     passing = (λ e. all-paid n .0 (named-none 11 _ e), λ h. none-named 11 _ (all-paid n .1 h));
     failing-so = some-below n;
   }
+
+-- one book alone
+pub failing-one : (k : Terms) (b : Book) (t : ℕ) → failingIn k (b ∷ []) t ≡ failingOn k b t
+unfolding failingIn firstOf
+failing-one k b t = or-none (failingOn k b t)
+
+pub first-one : (k : Terms) (b : Book) (t : ℕ) → firstIn k (b ∷ []) t ≡ firstOn k b t
+unfolding firstIn firstOn
+first-one k b zero = refl
+first-one k b (suc t) = rw (first-one k b t, failing-one k b t)
 
 -- ---- lists of checks
 unfoldable pub Each : List (Option Refusal) → List Check → Type 0

@@ -8,21 +8,23 @@ use native.Mathlib.Omega.{arith}
 use lib.IntN.{ℤ}
 use lib.ListN.{length}
 use Rattle.rules.specs.Card.{Card}
-use Rattle.rules.specs.Units.{interval, delaysOf}
-use Rattle.rules.specs.Past.{Past, counterAt, countedStamps}
-use Rattle.rules.specs.Entries.{Entry, viewOf, read, taken, pastOver}
+use Rattle.rules.specs.Units.{delaysOf}
+use Rattle.rules.specs.Past.{Past, counterAt}
+use Rattle.rules.specs.Entries.{Entry, viewOf, readAfter, moveOf, judgedAs, pastWith, pastOver}
 use Rattle.rules.specs.Delays.{find, delayRules}
 use Rattle.rules.specs.Account.{lpddr3}
+use Rattle.rules.specs.Clock.{booksOf}
 use Rattle.rules.specs.Checks.{Refusal, checks, entryChecks, endChecks, entryRefusal, endRefusal}
 use Rattle.rules.specs.Verdict.{accepted, refused, atEnd, judgeFrom, judge}
 use Rattle.rules.specs.Reading.{AllPass, FirstFails, entryReads, endReads, readsAt, Accepts, Refuses}
-use Rattle.rules.proofs.Tests.{nowhere}
+use Rattle.rules.proofs.Tests.{nowhere, _&_}
 use Rattle.rules.proofs.Decided.{
   decides-plain,
   above-iff,
   not-below-iff,
   not-wrong,
   not-reserved,
+  not-barred,
   decides-delays,
   decides-at,
   decides-below,
@@ -32,39 +34,29 @@ use Rattle.rules.proofs.Decided.{
   decides-all,
 }
 
-accepted-refused : {m n : ℕ} {l : ℤ} {x : Refusal} {k : ℕ} → accepted m n l ≡ refused x k → ⊥
+accepted-refused : {m n : ℕ} {l : List ℤ} {x : Refusal} {k : ℕ} → accepted m n l ≡ refused x k → ⊥
 accepted-refused e = let z : _≡_ {A = ℕ} 0 1 = cc in omega arith
 
 module _ (card : Card) where
   -- ---- one entry, and the end
   entry-each : (past : Past) (e : Entry) → Each (entryChecks card past e) (entryReads card past e)
-  unfolding Each entryChecks checks viewOf entryReads taken
-  entry-each past e = (
-    decides-plain 5 _ _ (above-iff past (e .stamp)),
-    (
-      decides-below lpddr3 (interval card) (countedStamps past) (e .stamp),
-      (
-        decides-plain 6 _ _ (not-wrong (read card (viewOf card past) e)),
-        (
-          decides-plain 7 _ _ (not-reserved (read card (viewOf card past) e)),
-          (
-            decides-plain 8 _ _ (λ h. h, λ h. h),
-            (
-              decides-plain 9 _ _ (λ h. h, λ h. h),
-              (
-                decides-delays (find card past) (delayRules (delaysOf card) (taken card past e .cmd) (counterAt past)) (e .stamp),
-                (decides-at lpddr3 (interval card) (countedStamps (taken card past e ∷ past)) (e .stamp), tt),
-              ),
-            ),
-          ),
-        ),
-      ),
-    ),
-  )
+  unfolding Each entryChecks checks viewOf entryReads
+  entry-each past e =
+      let r = readAfter card past e in
+      decides-plain 5 _ _ (above-iff past (e .stamp))
+      & decides-below lpddr3 (booksOf card past) (e .stamp)
+      & decides-plain 6 _ _ (not-wrong r)
+      & decides-plain 7 _ _ (not-reserved r)
+      & decides-plain 8 _ _ (λ h. h, λ h. h)
+      & decides-plain 16 _ _ (not-barred r)
+      & decides-plain 9 _ _ (λ h. h, λ h. h)
+      & decides-delays (find card past) (delayRules (delaysOf card) (judgedAs r) (moveOf r) (counterAt past)) (e .stamp)
+      & decides-at lpddr3 (booksOf card (pastWith card past e)) (e .stamp)
+      & tt
 
   end-each : (past : Past) (end : ℕ) → Each (endChecks card past end) (endReads card past end)
   unfolding Each endChecks endReads
-  end-each past end = (decides-plain 5 _ _ (not-below-iff past end), (decides-below lpddr3 (interval card) (countedStamps past) (suc end), tt))
+  end-each past end = (decides-plain 5 _ _ (not-below-iff past end), (decides-below lpddr3 (booksOf card past) (suc end), tt))
 
   pub entry-decides : (past : Past) (e : Entry) → Decides (entryRefusal card past e) (allOf (entryReads card past e))
   unfolding entryRefusal
@@ -76,7 +68,7 @@ module _ (card : Card) where
 
   -- ---- an entry in front
   pub step-passed : (past : Past) (k : ℕ) (e : Entry) (es : List Entry) (end : ℕ) → entryRefusal card past e ≡ none →
-      judgeFrom card past k (e ∷ es) end ≡ judgeFrom card (taken card past e ∷ past) (suc k) es end
+      judgeFrom card past k (e ∷ es) end ≡ judgeFrom card (pastWith card past e) (suc k) es end
   unfolding judgeFrom
   step-passed past k e es end h = rw (h, judgeFrom)
 
@@ -89,12 +81,12 @@ module _ (card : Card) where
   unfolding readsAt pastOver
   reads-zero past e es = refl
 
-  reads-suc : (past : Past) (e : Entry) (es : List Entry) (i : ℕ) → readsAt card past (e ∷ es) (suc i) ≡ readsAt card (taken card past e ∷ past) es i
+  reads-suc : (past : Past) (e : Entry) (es : List Entry) (i : ℕ) → readsAt card past (e ∷ es) (suc i) ≡ readsAt card (pastWith card past e) es i
   unfolding readsAt pastOver
   reads-suc past e es i = refl
 
   -- ---- accepted
-  accepts-forth : (past : Past) (k : ℕ) (es : List Entry) (end m n : ℕ) (l : ℤ) →
+  accepts-forth : (past : Past) (k : ℕ) (es : List Entry) (end m n : ℕ) (l : List ℤ) →
       judgeFrom card past k es end ≡ accepted m n l → Accepts card past es end m n l
   unfolding judgeFrom pastOver atEnd
   accepts-forth past k [] end m n l a = go (endRefusal card past end) refl a
@@ -105,13 +97,13 @@ module _ (card : Card) where
         ended = end-decides past end .passing .0 h;
         commands = cc;
         refreshes = cc;
-        ledger = cc;
+        ledgers = cc;
       }
       go (some x) h q = absurd (accepted-refused (sym q))
-  accepts-forth past k (e ∷ es) end m n l a = go (entryRefusal card past e) refl (λ b. accepts-forth (taken card past e ∷ past) (suc k) es end m n l b)
+  accepts-forth past k (e ∷ es) end m n l a = go (entryRefusal card past e) refl (λ b. accepts-forth (pastWith card past e) (suc k) es end m n l b)
     where
       go : (o : Option Refusal) → entryRefusal card past e ≡ o →
-          (judgeFrom card (taken card past e ∷ past) (suc k) es end ≡ accepted m n l → Accepts card (taken card past e ∷ past) es end m n l) →
+          (judgeFrom card (pastWith card past e) (suc k) es end ≡ accepted m n l → Accepts card (pastWith card past e) es end m n l) →
           Accepts card past (e ∷ es) end m n l
       go none h ih =
           let t = ih (sym (step-passed past k e es end h) ∙ a) in
@@ -120,33 +112,33 @@ module _ (card : Card) where
             ended = t .ended;
             commands = t .commands;
             refreshes = t .refreshes;
-            ledger = t .ledger;
+            ledgers = t .ledgers;
           }
         where
-          at : AllPass (entryReads card past e) → ((i : ℕ) → i < length es → AllPass (readsAt card (taken card past e ∷ past) es i)) →
+          at : AllPass (entryReads card past e) → ((i : ℕ) → i < length es → AllPass (readsAt card (pastWith card past e) es i)) →
               (i : ℕ) → i < length (e ∷ es) → AllPass (readsAt card past (e ∷ es) i)
           at p q zero h = rw (reads-zero past e es) p
           at p q (suc i) h = rw (reads-suc past e es i) (q i (omega arith))
       go (some x) h ih = absurd (accepted-refused (sym a ∙ step-refused past k e es end x h))
 
-  accepts-back : (past : Past) (k : ℕ) (es : List Entry) (end m n : ℕ) (l : ℤ) →
+  accepts-back : (past : Past) (k : ℕ) (es : List Entry) (end m n : ℕ) (l : List ℤ) →
       Accepts card past es end m n l → judgeFrom card past k es end ≡ accepted m n l
   unfolding judgeFrom pastOver atEnd
   accepts-back past k [] end m n l p =
       let h : endRefusal card past end ≡ none = end-decides past end .passing .1 (p .ended) in
-      rw (h, ← p .commands, ← p .refreshes, ← p .ledger)
+      rw (h, ← p .commands, ← p .refreshes, ← p .ledgers)
   accepts-back past k (e ∷ es) end m n l p =
       step-passed past k e es end (entry-decides past e .passing .1 (rw (reads-zero past e es) at (p .entries 0 (omega arith))))
-      ∙ accepts-back (taken card past e ∷ past) (suc k) es end m n l (record {
+      ∙ accepts-back (pastWith card past e) (suc k) es end m n l (record {
         entries = λ i h. rw (reads-suc past e es i) at (p .entries (suc i) (omega arith));
         ended = p .ended;
         commands = p .commands;
         refreshes = p .refreshes;
-        ledger = p .ledger;
+        ledgers = p .ledgers;
       })
 
   -- demand 2: accepted exactly when
-  pub accepted-iff : (es : List Entry) (end m n : ℕ) (l : ℤ) → (judge card es end ≡ accepted m n l) ↔ Accepts card [] es end m n l
+  pub accepted-iff : (es : List Entry) (end m n : ℕ) (l : List ℤ) → (judge card es end ≡ accepted m n l) ↔ Accepts card [] es end m n l
   unfolding judge
   accepted-iff es end m n l = (accepts-forth [] 0 es end m n l, accepts-back [] 0 es end m n l)
 
@@ -163,10 +155,10 @@ module _ (card : Card) where
           let p : k ≡ j = cc in
           let s : y ≡ x = cc in
           (0, omega arith, record { before = λ i h. absurd (nowhere h); here = inr (refl, end-decides past end .failing-so x .0 (h ∙ ap some s)) })
-  refuses-forth past k (e ∷ es) end x j a = go (entryRefusal card past e) refl (λ b. refuses-forth (taken card past e ∷ past) (suc k) es end x j b)
+  refuses-forth past k (e ∷ es) end x j a = go (entryRefusal card past e) refl (λ b. refuses-forth (pastWith card past e) (suc k) es end x j b)
     where
       go : (o : Option Refusal) → entryRefusal card past e ≡ o →
-          (judgeFrom card (taken card past e ∷ past) (suc k) es end ≡ refused x j → (i : ℕ) × (j ≡ suc k + i) × Refuses card (taken card past e ∷ past) es end x i) →
+          (judgeFrom card (pastWith card past e) (suc k) es end ≡ refused x j → (i : ℕ) × (j ≡ suc k + i) × Refuses card (pastWith card past e) es end x i) →
           (i : ℕ) × (j ≡ k + i) × Refuses card past (e ∷ es) end x i
       go none h ih =
           let t = ih (sym (step-passed past k e es end h) ∙ a) in (
@@ -175,13 +167,13 @@ module _ (card : Card) where
             record {
               before = at (t .2 .before);
               here = ⊎-elim
-                  (λ (h : (t .0 < length es) × FirstFails (readsAt card (taken card past e ∷ past) es (t .0)) x). inl (omega arith, rw (reads-suc past e es (t .0)) (h .1)))
-                  (λ (h : (t .0 ≡ length es) × FirstFails (endReads card (pastOver card (taken card past e ∷ past) es) end) x). inr (ap suc (h .0), h .1))
+                  (λ (h : (t .0 < length es) × FirstFails (readsAt card (pastWith card past e) es (t .0)) x). inl (omega arith, rw (reads-suc past e es (t .0)) (h .1)))
+                  (λ (h : (t .0 ≡ length es) × FirstFails (endReads card (pastOver card (pastWith card past e) es) end) x). inr (ap suc (h .0), h .1))
                   (t .2 .here);
             },
           )
         where
-          at : {n : ℕ} → ((i : ℕ) → i < n → AllPass (readsAt card (taken card past e ∷ past) es i)) → (i : ℕ) → i < suc n → AllPass (readsAt card past (e ∷ es) i)
+          at : {n : ℕ} → ((i : ℕ) → i < n → AllPass (readsAt card (pastWith card past e) es i)) → (i : ℕ) → i < suc n → AllPass (readsAt card past (e ∷ es) i)
           at q zero l = rw (reads-zero past e es) (entry-decides past e .passing .0 h)
           at q (suc i) l = rw (reads-suc past e es i) (q i (omega arith))
       go (some y) h ih =
@@ -210,7 +202,7 @@ module _ (card : Card) where
           rw q (ap (refused x) z)
   refuses-back past k (e ∷ es) end x zero p = go (p .here)
     where
-      go : ((0 < suc (length es)) × FirstFails (readsAt card past (e ∷ es) 0) x) ⊎ ((0 ≡ suc (length es)) × FirstFails (endReads card (pastOver card (taken card past e ∷ past) es) end) x) →
+      go : ((0 < suc (length es)) × FirstFails (readsAt card past (e ∷ es) 0) x) ⊎ ((0 ≡ suc (length es)) × FirstFails (endReads card (pastOver card (pastWith card past e) es) end) x) →
           judgeFrom card past k (e ∷ es) end ≡ refused x (k + 0)
       go (inl h) =
           let z : k ≡ k + 0 = omega arith in
@@ -222,14 +214,14 @@ module _ (card : Card) where
   refuses-back past k (e ∷ es) end x (suc i) p =
       let z : suc k + i ≡ k + suc i = omega arith in
       step-passed past k e es end (entry-decides past e .passing .1 (rw (reads-zero past e es) at (p .before 0 (omega arith))))
-      ∙ refuses-back (taken card past e ∷ past) (suc k) es end x i (record {
+      ∙ refuses-back (pastWith card past e) (suc k) es end x i (record {
         before = λ j h. rw (reads-suc past e es j) at (p .before (suc j) (omega arith));
         here = there (p .here);
       })
       ∙ ap (refused x) z
     where
-      there : ((suc i < suc (length es)) × FirstFails (readsAt card past (e ∷ es) (suc i)) x) ⊎ ((suc i ≡ suc (length es)) × FirstFails (endReads card (pastOver card (taken card past e ∷ past) es) end) x) →
-          ((i < length es) × FirstFails (readsAt card (taken card past e ∷ past) es i) x) ⊎ ((i ≡ length es) × FirstFails (endReads card (pastOver card (taken card past e ∷ past) es) end) x)
+      there : ((suc i < suc (length es)) × FirstFails (readsAt card past (e ∷ es) (suc i)) x) ⊎ ((suc i ≡ suc (length es)) × FirstFails (endReads card (pastOver card (pastWith card past e) es) end) x) →
+          ((i < length es) × FirstFails (readsAt card (pastWith card past e) es i) x) ⊎ ((i ≡ length es) × FirstFails (endReads card (pastOver card (pastWith card past e) es) end) x)
       there (inl h) = inl (omega arith, rw (reads-suc past e es i) at (h .1))
       there (inr h) = inr (omega arith, h .1)
 

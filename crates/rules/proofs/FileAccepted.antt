@@ -1,9 +1,9 @@
 -- A file is accepted exactly when it is a right card, right entry fields and a right end field, and the list of its entries is accepted; so demand 3 holds
 -- of files.
-use Prim.Native.Nat.{ℕ, _+_, _*_, _-_, _/_, _≤_, _<_}
+use Prim.Native.Nat.{ℕ, suc, _+_, _*_, _-_, _/_, _≤_, _<_}
 use mathlib.Core.Path.{_≡_, refl, ap, _∙_}
 use mathlib.Core.Logic.{_⊎_, _↔_}
-use mathlib.Core.Bool.{true}
+use mathlib.Core.Bool.{true, false}
 use mathlib.Core.List.{List, [], _∷_, _++_, append-nil, map}
 use native.Mathlib.Omega.{arith}
 use lib.IntN.{ℤ}
@@ -14,16 +14,19 @@ use Rattle.rules.specs.Units.{interval}
 use Rattle.rules.specs.Past.{Past, refreshStamps}
 use Rattle.rules.specs.Entries.{pastOf}
 use Rattle.rules.specs.Reading.{AllPass, endReads}
+use Rattle.rules.specs.Clock.{countedFrom}
 use Rattle.rules.specs.Stretch.{countIn, Took}
 use Rattle.rules.specs.Form.{Field, bytesOf, cardWhole, cardOf, entryOf, endOf}
-use Rattle.rules.specs.File.{FileVerdict, acceptedAt, judgeFile}
+use Rattle.rules.specs.File.{FileVerdict, acceptedAt, begun, judgeFile}
 use Rattle.rules.specs.FileReading.{RightForm, cardBytes, entriesBytes, Ends, Says, AcceptedFile}
 use Rattle.rules.proofs.Exactly.{accepted-iff}
-use Rattle.rules.proofs.Refreshed.{refreshed}
+use Rattle.rules.proofs.Clocks.{counted-all}
+use Rattle.rules.proofs.Refreshed.{refreshed, all-counted}
 use Rattle.rules.proofs.Groups.{every-group, in-a-row}
 use Rattle.rules.proofs.Rounding.{interval-positive}
+use Rattle.rules.proofs.FileSteps.{any-form, end-tag}
 use Rattle.rules.proofs.FileExactly.{file-iff}
-use Rattle.rules.proofs.CardGood.{card-good}
+use Rattle.rules.proofs.CardRead.{card-good}
 
 every-map : {A : Type 0} {P Q : A → Type 0} → ((x : A) → P x → Q x) → (xs : List A) → Every P xs → Every Q xs
 unfolding Every
@@ -34,17 +37,17 @@ every-map f (x ∷ xs) h = (f x (h .0), every-map f xs (h .1))
 record EndsGood (fs : List Field) (past : Past) (bs : List ℕ) (v : FileVerdict) : Type 0 where
   z : Field
   split : bs ≡ bytesOf z
-  form : RightForm fs z
+  form : RightForm (begun past) fs z
   whole : cardWhole fs ≡ true
   isEnd : z .tag ≡ 33
   passed : AllPass (endReads (cardOf fs) past (endOf z))
   verdict : acceptedAt fs past (endOf z) ≡ v
 
-refused-accepted : {a b c d m n : ℕ} {l : ℤ} → FileVerdict.refused a b c d ≡ FileVerdict.accepted m n l → ⊥
+refused-accepted : {a b c d m n : ℕ} {l : List ℤ} → FileVerdict.refused a b c d ≡ FileVerdict.accepted m n l → ⊥
 refused-accepted e = let z : _≡_ {A = ℕ} 0 1 = cc in omega arith
 
 ends-good : {fs : List Field} {past : Past} {at : ℕ} {bs : List ℕ} {v : FileVerdict} → Ends fs past at bs v →
-    {m n : ℕ} {l : ℤ} → v ≡ FileVerdict.accepted m n l → EndsGood fs past bs v
+    {m n : ℕ} {l : List ℤ} → v ≡ FileVerdict.accepted m n l → EndsGood fs past bs v
 ends-good (Ends.one c) e = absurd (refused-accepted e)
 ends-good (Ends.two m) e = absurd (refused-accepted e)
 ends-good (Ends.three m g) e = absurd (refused-accepted e)
@@ -54,7 +57,7 @@ ends-good (Ends.end f bs x h w t p) e = absurd (refused-accepted e)
 ends-good (Ends.twelve f b bs h w t p) e = absurd (refused-accepted e)
 ends-good (Ends.good f h w t p) e = record { z = f; split = append-nil (bytesOf f); form = h; whole = w; isEnd = t; passed = p; verdict = refl }
 
-module _ (bytes : List ℕ) (m n : ℕ) (l : ℤ) where
+module _ (bytes : List ℕ) (m n : ℕ) (l : List ℤ) where
   forth : Says bytes (FileVerdict.accepted m n l) → AcceptedFile bytes m n l
   unfolding acceptedAt pastOf
   forth s =
@@ -69,14 +72,14 @@ module _ (bytes : List ℕ) (m n : ℕ) (l : ℤ) where
         card = b .card;
         whole = e .whole;
         entries = every-map (λ f h. h .1) (s .es) (b .entries);
-        end = e .form;
+        end = any-form true (s .fs) (e .z) (end-tag (e .z .tag) (e .isEnd)) (e .form);
         isEnd = e .isEnd;
         list = accepted-iff (cardOf (s .fs)) (map entryOf (s .es)) (endOf (e .z)) m n l .1 (record {
           entries = λ i h. b .passed i (rw length-map at h);
           ended = e .passed;
           commands = cc;
           refreshes = cc;
-          ledger = cc;
+          ledgers = cc;
         });
       }
 
@@ -94,7 +97,7 @@ module _ (bytes : List ℕ) (m n : ℕ) (l : ℤ) where
           entries = every-map (λ f h. (a .whole, h)) (a .es) (a .entries);
           passed = λ i h. p .entries i (rw length-map h);
         };
-        ending = rw (p .commands, p .refreshes, p .ledger) (Ends.good (a .z) (a .end) (a .whole) (a .isEnd) (p .ended));
+        ending = rw (p .commands, p .refreshes, p .ledgers) (Ends.good (a .z) (any-form _ (a .fs) (a .z) (end-tag (a .z .tag) (a .isEnd)) (a .end)) (a .whole) (a .isEnd) (p .ended));
       }
 
   pub accepted-file-iff : (judgeFile bytes ≡ FileVerdict.accepted m n l) ↔ AcceptedFile bytes m n l
@@ -103,15 +106,21 @@ module _ (bytes : List ℕ) (m n : ℕ) (l : ℤ) where
       (λ e. forth (i .0 e), λ a. i .1 (back a))
 
 -- ---- demand 3
-module _ {bytes : List ℕ} {m n : ℕ} {l : ℤ} (a : AcceptedFile bytes m n l) where
+module _ {bytes : List ℕ} {m n : ℕ} {l : List ℤ} (a : AcceptedFile bytes m n l) where
   abbrev pub cardIn : Card
   cardIn = cardOf (a .fs)
 
   abbrev pub pastIn : Past
   pastIn = pastOf (cardOf (a .fs)) (map entryOf (a .es))
 
-  pub refreshed-file : (b c L : ℕ) → b < 8 → c + L ≤ endOf (a .z) + 1 → L / interval cardIn - 17 ≤ countIn c (c + L) (refreshStamps b pastIn)
+  -- in the k cycles from cycle c on, of which so many are counted
+  pub refreshed-file : (b c k : ℕ) → b < 8 → c + k ≤ endOf (a .z) + 1 →
+      countedFrom pastIn c k / interval cardIn - 17 ≤ countIn c (c + k) (refreshStamps b pastIn)
   refreshed-file = refreshed cardIn (map entryOf (a .es)) (endOf (a .z)) m n l (a .list)
+
+  -- all of them, where the card has no tags 19 to 22
+  pub counted-file : cardIn .sleeps ≡ false → (c k : ℕ) → countedFrom pastIn c k ≡ k
+  counted-file h = counted-all pastIn (all-counted cardIn (map entryOf (a .es)) h)
 
   positive : 0 < interval cardIn
   positive = interval-positive cardIn (card-good (a .fs) (a .card) (a .whole))
@@ -121,11 +130,11 @@ module _ {bytes : List ℕ} {m n : ℕ} {l : ℤ} (a : AcceptedFile bytes m n l)
     TakenAt s = Took (cardIn .groups) first g (refreshStamps b pastIn) s
 
     -- the group is taken in every such stretch
-    pub every-group-file : (c : ℕ) → c + (cardIn .groups + 17) * interval cardIn ≤ endOf (a .z) + 1 →
-        (s : ℕ) × (c ≤ s) × (s < c + (cardIn .groups + 17) * interval cardIn) × TakenAt s
+    pub every-group-file : (c k : ℕ) → c + k ≤ endOf (a .z) + 1 → (cardIn .groups + 17) * interval cardIn ≤ countedFrom pastIn c k →
+        (s : ℕ) × (c ≤ s) × (s < c + k) × TakenAt s
     every-group-file = every-group cardIn (map entryOf (a .es)) (endOf (a .z)) m n l (a .list) positive first b g hb hg
 
     -- two takings with none between
     pub in-a-row-file : (s t : ℕ) → TakenAt s → TakenAt t → s < t → ((u : ℕ) → TakenAt u → (u ≤ s) ⊎ (t ≤ u)) →
-        t ≤ s + (cardIn .groups + 17) * interval cardIn
+        countedFrom pastIn (suc s) (t - s) ≤ (cardIn .groups + 17) * interval cardIn
     in-a-row-file = in-a-row cardIn (map entryOf (a .es)) (endOf (a .z)) m n l (a .list) positive first b g hb hg

@@ -2,19 +2,19 @@
 use Prim.Native.Nat.{ℕ, zero, suc, _+_, _<_}
 use mathlib.Core.Path.{_≡_, refl, ap, sym, _∙_, subst}
 use mathlib.Core.Logic.{_↔_}
-use mathlib.Core.Bool.{Bool, true, false}
+use mathlib.Core.Bool.{true}
 use mathlib.Core.List.{List, [], _∷_, _++_, append-assoc, map}
 use native.Mathlib.Omega.{arith}
 use lib.ListN.{length, length-append}
 use Rattle.rules.specs.Lists.{Every}
 use Rattle.rules.specs.Past.{Past}
-use Rattle.rules.specs.Entries.{taken, pastOver, pastOf}
+use Rattle.rules.specs.Entries.{Entry, pastWith, pastOver, pastOf}
 use Rattle.rules.specs.Reading.{AllPass, entryReads, readsAt}
 use Rattle.rules.specs.Form.{Field, bytesOf, sizeOf, cardWhole, cardOf, entryOf}
-use Rattle.rules.specs.File.{FileVerdict, Step, goesOn, Judged, fileFrom, judged, judgeFile}
+use Rattle.rules.specs.File.{FileVerdict, Step, goesOn, begun, Judged, fileFrom, judged, judgeFile}
 use Rattle.rules.specs.FileReading.{CardRight, cardBytes, entriesBytes, EntryField, Ends, Says}
 use Rattle.rules.proofs.Tests.{nowhere}
-use Rattle.rules.proofs.FileSteps.{StepSays, card-on, entry-on, stops, step-says, step-only}
+use Rattle.rules.proofs.FileSteps.{StepSays, card-on, entry-on, stops, any-form, no-more, entry-tag, step-says, step-only}
 
 -- ---- one field of the count
 file-on : {fs fs′ : List Field} {past past′ : Past} {at at′ : ℕ} {bs rest : List ℕ} → CardRight fs → StepSays fs past at bs (goesOn fs′ past′ at′ rest) →
@@ -26,9 +26,6 @@ file-ends : {fs : List Field} {past : Past} {at : ℕ} {bs : List ℕ} {v : File
     (k : ℕ) → fileFrom (suc k) fs past at bs .verdict ≡ v
 unfolding fileFrom
 file-ends {fs} {past} {at} r e k = rw (step-only fs past at r (stops e), fileFrom)
-
-not-both : {b : Bool} → b ≡ true → b ≡ false → ⊥
-not-both p q = let z : _≡_ {A = ℕ} 0 1 = cc in omega arith
 
 size-length : (f : Field) → length (bytesOf f) ≡ sizeOf f
 unfolding bytesOf sizeOf
@@ -57,7 +54,7 @@ module _ (fs : List Field) (r : CardRight fs) where
   ends-here e = record { es = []; rest = _; split = refl; entries = tt; passed = λ i h. absurd (nowhere h); ending = moved (omega arith) e }
 
   entry-in-front : {past : Past} {at : ℕ} (f : Field) {bs : List ℕ} {v : FileVerdict} → (cardWhole fs ≡ true) × EntryField fs f →
-      AllPass (entryReads (cardOf fs) past (entryOf f)) → Behind fs (taken (cardOf fs) past (entryOf f) ∷ past) (at + sizeOf f) bs v →
+      AllPass (entryReads (cardOf fs) past (entryOf f)) → Behind fs (pastWith (cardOf fs) past (entryOf f)) (at + sizeOf f) bs v →
       Behind fs past at (bytesOf f ++ bs) v
   unfolding entriesBytes Every readsAt pastOver
   entry-in-front {past} {at} f h p b = record {
@@ -69,22 +66,26 @@ module _ (fs : List Field) (r : CardRight fs) where
     ending = moved (rw length-append (omega (arith, size-length f))) (b .ending);
   }
     where
-      all : ((i : ℕ) → i < length (b .es) → AllPass (readsAt (cardOf fs) (taken (cardOf fs) past (entryOf f) ∷ past) (map entryOf (b .es)) i)) →
+      all : ((i : ℕ) → i < length (b .es) → AllPass (readsAt (cardOf fs) (pastWith (cardOf fs) past (entryOf f)) (map entryOf (b .es)) i)) →
           (i : ℕ) → i < suc (length (b .es)) → AllPass (readsAt (cardOf fs) past (map entryOf (f ∷ b .es)) i)
       all q zero h = p
       all q (suc i) h = q i (omega arith)
 
-  behind-forth : (k : ℕ) (past : Past) (at : ℕ) (bs : List ℕ) → cardWhole fs ≡ true → length bs < k → Behind fs past at bs (fileFrom k fs past at bs .verdict)
-  behind-forth zero past at bs w h = absurd (nowhere h)
-  behind-forth (suc k) past at bs w h = go (step-says fs past at r bs) h (λ past′ at′ rest l. behind-forth k past′ at′ rest w l)
+  -- behind an entry no field of the card comes
+  behind-forth : (k : ℕ) (past : Past) (at : ℕ) (bs : List ℕ) → begun past ≡ true → cardWhole fs ≡ true → length bs < k →
+      Behind fs past at bs (fileFrom k fs past at bs .verdict)
+  behind-forth zero past at bs y w h = absurd (nowhere h)
+  behind-forth (suc k) past at bs y w h =
+      go (step-says fs past at r bs) h (λ e at′ rest l. behind-forth k (pastWith (cardOf fs) past e) at′ rest (unfold begun pastWith in refl) w l)
     where
       go : {cs : List ℕ} {s : Step} → StepSays fs past at cs s → length cs < suc k →
-          ((past′ : Past) (at′ : ℕ) (rest : List ℕ) → length rest < k → Behind fs past′ at′ rest (fileFrom k fs past′ at′ rest .verdict)) →
+          ((e : Entry) (at′ : ℕ) (rest : List ℕ) → length rest < k →
+          Behind fs (pastWith (cardOf fs) past e) at′ rest (fileFrom k fs (pastWith (cardOf fs) past e) at′ rest .verdict)) →
           Behind fs past at cs (fileFrom (suc k) fs past at cs .verdict)
-      go (card-on f rest form n g) l ih = absurd (not-both w n)
+      go (card-on f rest form o g) l ih = absurd (no-more fs f (rw y at form) w o)
       go (entry-on f rest form c t p) l ih =
           rw (file-on r (entry-on f rest form c t p) k)
-          (entry-in-front f (c, record { form = form; isEntry = t }) p (ih _ _ rest (shorter f rest l)))
+          (entry-in-front f (c, record { form = any-form true fs f (entry-tag (f .tag) t) form; isEntry = t }) p (ih (entryOf f) _ rest (shorter f rest l)))
       go (stops e) l ih = rw (file-ends r e k) (ends-here e)
 
   behind-back : (k : ℕ) (past : Past) (at : ℕ) (es : List Field) (rest : List ℕ) (v : FileVerdict) →
@@ -100,12 +101,12 @@ module _ (fs : List Field) (r : CardRight fs) where
       let x = h .0 .1 in
       let l′ : length (bytesOf f ++ (entriesBytes es ++ rest)) < suc k = rw again at l in
       rw again
-      (ap (λ (j : Judged). j .verdict) (file-on r (entry-on f (entriesBytes es ++ rest) (x .form) (h .0 .0) (x .isEntry) (p 0 (omega arith))) k)
-      ∙ behind-back k (taken (cardOf fs) past (entryOf f) ∷ past) (at + sizeOf f) es rest v (h .1) (λ i q. p (suc i) (omega arith))
+      (ap (λ (j : Judged). j .verdict) (file-on r (entry-on f (entriesBytes es ++ rest) (any-form (begun past) fs f (entry-tag (f .tag) (x .isEntry)) (x .form)) (h .0 .0) (x .isEntry) (p 0 (omega arith))) k)
+      ∙ behind-back k (pastWith (cardOf fs) past (entryOf f)) (at + sizeOf f) es rest v (h .1) (λ i q. p (suc i) (omega arith))
       (moved (rw length-append (omega (arith, size-length f))) e) (shorter f (entriesBytes es ++ rest) l′))
 
 -- ---- the card in front, its newest field last in the file
-newest-bytes : (f : Field) (fs : List Field) (rest : List ℕ) → cardBytes (f ∷ fs) ++ rest ≡ cardBytes fs ++ (bytesOf f ++ rest)
+pub newest-bytes : (f : Field) (fs : List Field) (rest : List ℕ) → cardBytes (f ∷ fs) ++ rest ≡ cardBytes fs ++ (bytesOf f ++ rest)
 unfolding cardBytes
 newest-bytes f fs rest = append-assoc (cardBytes fs) (bytesOf f) rest
 
@@ -126,7 +127,7 @@ says-behind fs r b = record {
 card-forth : (k : ℕ) (fs : List Field) (bs : List ℕ) → CardRight fs → length bs < k →
     Says (cardBytes fs ++ bs) (fileFrom k fs [] (length (cardBytes fs)) bs .verdict)
 card-forth zero fs bs r h = absurd (nowhere h)
-card-forth (suc k) fs bs r h = by-whole (cardWhole fs) refl (λ f rest q l. card-forth k (f ∷ fs) rest q l)
+card-forth (suc k) fs bs r h = go (step-says fs [] at r bs) h (λ f rest q l. card-forth k (f ∷ fs) rest q l)
   where
     at : ℕ
     at = length (cardBytes fs)
@@ -135,21 +136,19 @@ card-forth (suc k) fs bs r h = by-whole (cardWhole fs) refl (λ f rest q l. card
     On = (f : Field) (rest : List ℕ) → CardRight (f ∷ fs) → length rest < k →
         Says (cardBytes (f ∷ fs) ++ rest) (fileFrom k (f ∷ fs) [] (length (cardBytes (f ∷ fs))) rest .verdict)
 
-    go : {cs : List ℕ} {s : Step} → cardWhole fs ≡ false → StepSays fs [] at cs s → length cs < suc k → On →
-        Says (cardBytes fs ++ cs) (fileFrom (suc k) fs [] at cs .verdict)
-    go n (card-on f rest form w g) l ih =
-        let right : CardRight (f ∷ fs) = unfold CardRight in (form, w, g, r) in
-        rw (file-on r (card-on f rest form w g) k, newest-length f fs, ← newest-bytes f fs rest) (ih f rest right (shorter f rest l))
-    go n (entry-on f rest form w t p) l ih = absurd (not-both w n)
-    go n (stops e) l ih = rw (file-ends r e k) (says-behind fs r (ends-here fs r e))
-
-    by-whole : (x : Bool) → cardWhole fs ≡ x → On → Says (cardBytes fs ++ bs) (fileFrom (suc k) fs [] at bs .verdict)
-    by-whole true w ih = says-behind fs r (behind-forth fs r (suc k) [] at bs w h)
-    by-whole false w ih = go w (step-says fs [] at r bs) h ih
+    go : {cs : List ℕ} {s : Step} → StepSays fs [] at cs s → length cs < suc k → On → Says (cardBytes fs ++ cs) (fileFrom (suc k) fs [] at cs .verdict)
+    go (card-on f rest form o g) l ih =
+        let right : CardRight (f ∷ fs) = unfold CardRight begun in (form, o, g, r) in
+        rw (file-on r (card-on f rest form o g) k, newest-length f fs, ← newest-bytes f fs rest) (ih f rest right (shorter f rest l))
+    go (entry-on f rest form w t p) l ih =
+        rw (file-on r (entry-on f rest form w t p) k)
+        (says-behind fs r (entry-in-front fs r f (w, record { form = any-form true fs f (entry-tag (f .tag) t) form; isEntry = t }) p
+        (behind-forth fs r k _ _ rest (unfold begun pastWith in refl) w (shorter f rest l))))
+    go (stops e) l ih = rw (file-ends r e k) (says-behind fs r (ends-here fs r e))
 
 card-back : (fs : List Field) (bs : List ℕ) (n : ℕ) → CardRight fs → length (cardBytes fs ++ bs) < n →
     (k : ℕ) × (length bs < k) × (fileFrom n [] [] 0 (cardBytes fs ++ bs) ≡ fileFrom k fs [] (length (cardBytes fs)) bs)
-unfolding CardRight
+unfolding CardRight begun
 card-back [] bs n r h = unfold cardBytes in (n, h, refl)
 card-back (f ∷ fs) bs n r h =
     let h′ : length (cardBytes fs ++ (bytesOf f ++ bs)) < n = rw (newest-bytes f fs bs) at h in

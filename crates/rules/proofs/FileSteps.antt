@@ -1,67 +1,169 @@
 -- One field of a file does exactly what is read of it: the file goes on behind a right field of the card or an entry that passes, or it ends so.
-use Prim.Native.Nat.{ℕ, _+_, _≤_}
+use Prim.Native.Nat.{ℕ, suc, _+_, _≤_, _<_}
 use mathlib.Core.Path.{_≡_, refl, ap, _∙_}
-use mathlib.Core.Logic.{⊎-elim}
-use mathlib.Core.Bool.{Bool, true, false, cond}
+use mathlib.Core.Logic.{_⊎_, inl, inr, ⊎-elim}
+use mathlib.Core.Bool.{Bool, true, false, cond, not, _&&_, _||_}
 use mathlib.Core.List.{List, [], _∷_, _++_}
 use mathlib.Core.Option.{Option, none, some}
 use native.Mathlib.Omega.{arith}
-use lib.Dec.{eqb}
-use borrow.Author.Tests.{eqb-true, eqb-false, eq-eqb, ne-eqb}
+use lib.ListN.{length}
+use lib.Dec.{ltb, eqb}
+use borrow.Author.Tests.{ltb-true, eqb-true, eq-eqb, ne-eqb}
 use Rattle.rules.specs.Past.{Past}
-use Rattle.rules.specs.Entries.{taken}
+use Rattle.rules.specs.Entries.{pastWith}
 use Rattle.rules.specs.Checks.{Refusal, entryRefusal, endRefusal}
 use Rattle.rules.specs.Reading.{AllPass, entryReads}
-use Rattle.rules.specs.Form.{Field, bytesOf, sizeOf, nextTag, cardWhole, mayCome, Head, whole, cardOf, fieldGood, entryOf, endOf}
-use Rattle.rules.specs.File.{FileVerdict, refused, Step, goesOn, ends, orRefused, cardStep, entryStep, acceptedAt, closing, endStep, byHead, stepOf}
+use Rattle.rules.specs.Form.{
+  Field,
+  bytesOf,
+  sizeOf,
+  groups,
+  lastTag,
+  endsGroup,
+  beginsGroup,
+  cardWhole,
+  ofTrace,
+  _upTo_,
+  mayFollow,
+  mayCome,
+  Head,
+  whole,
+  cardOf,
+  fieldGood,
+  entryOf,
+  endOf,
+}
+use Rattle.rules.specs.File.{FileVerdict, refused, Step, goesOn, ends, orRefused, cardStep, entryStep, acceptedAt, closing, endStep, byHead, begun, stepOf}
 use Rattle.rules.specs.FileReading.{RightForm, CardRight, Ends, one, two, three, four, entry, end, twelve, good}
-use Rattle.rules.proofs.Tests.{eq-cases}
+use Rattle.rules.proofs.Tests.{eq-cases, both-true}
+use Rattle.rules.proofs.Tags.{Within, begins-within, next-within, within-small, first-within}
 use Rattle.rules.proofs.Exactly.{entry-decides, end-decides}
 use Rattle.rules.proofs.FileHeads.{HeadSays, is-whole, is-cut, is-bad-tag, is-bad-length, head-says, head-only}
 
 pub data StepSays (fs : List Field) (past : Past) (at : ℕ) : List ℕ → Step → Type 0 where
-  card-on : (f : Field) (rest : List ℕ) → RightForm fs f → cardWhole fs ≡ false → fieldGood fs f ≡ true →
+  card-on : (f : Field) (rest : List ℕ) → RightForm (begun past) fs f → ofTrace (f .tag) ≡ false → fieldGood fs f ≡ true →
       StepSays fs past at (bytesOf f ++ rest) (goesOn (f ∷ fs) past (at + sizeOf f) rest)
-  entry-on : (f : Field) (rest : List ℕ) → RightForm fs f → cardWhole fs ≡ true → f .tag ≡ 32 → AllPass (entryReads (cardOf fs) past (entryOf f)) →
-      StepSays fs past at (bytesOf f ++ rest) (goesOn fs (taken (cardOf fs) past (entryOf f) ∷ past) (at + sizeOf f) rest)
+  entry-on : (f : Field) (rest : List ℕ) → RightForm (begun past) fs f → cardWhole fs ≡ true → f .tag ≡ 32 → AllPass (entryReads (cardOf fs) past (entryOf f)) →
+      StepSays fs past at (bytesOf f ++ rest) (goesOn fs (pastWith (cardOf fs) past (entryOf f)) (at + sizeOf f) rest)
   stops : {bs : List ℕ} {v : FileVerdict} → Ends fs past at bs v → StepSays fs past at bs (ends v)
 
 -- ---- a tag that may come tells which kind of field it is
-pub follows : (f : Field) (fs : List Field) → RightForm fs f → cardWhole fs ≡ false → f .tag ≡ nextTag fs
-unfolding mayCome
-follows f fs h w = eqb-true (f .tag) (nextTag fs) (rw w at (h .tag))
+-- behind the fields of a card a field of the card goes on with the next tag, or begins a group where the card could end
+pub data Follows (fs : List Field) (t : ℕ) : Type 0 where
+  goes-on : cardWhole fs ≡ false → t ≡ suc (lastTag fs) → Follows fs t
+  begins : cardWhole fs ≡ true → lastTag fs < t → beginsGroup groups t ≡ true → Follows fs t
 
-next-small : (fs : List Field) → CardRight fs → cardWhole fs ≡ false → nextTag fs ≤ 18
-unfolding nextTag cardWhole CardRight
-next-small [] r w = omega arith
-next-small (f ∷ fs) r w =
-    let small : nextTag fs ≤ 18 = next-small fs (r .3) (r .1) in
-    omega (arith, follows f fs (r .0) (r .1), eqb-false (f .tag) 18 w)
+pub follows : {b : Bool} (f : Field) (fs : List Field) → RightForm b fs f → ofTrace (f .tag) ≡ false → Follows fs (f .tag)
+unfolding mayCome mayFollow cardWhole
+follows {b} f fs h o = go (cardWhole fs) refl
+  where
+    parts : (x y z : Bool) → (not x && (y && z)) ≡ true → (y ≡ true) × (z ≡ true)
+    parts true y z e = let q : _≡_ {A = ℕ} 0 1 = cc in absurd (omega arith)
+    parts false y z e = both-true y z e
+
+    go : (x : Bool) → cardWhole fs ≡ x → Follows fs (f .tag)
+    go false w = goes-on w (eqb-true (f .tag) (suc (lastTag fs)) (rw w at (h .tag)))
+    go true w =
+        let p = parts b (ltb (lastTag fs) (f .tag)) (beginsGroup groups (f .tag)) (rw (w, o) at (h .tag)) in
+        begins w (ltb-true (lastTag fs) (f .tag) (p .0)) (p .1)
+
+-- an entry and the end may come before the first entry and behind it alike; behind an entry nothing else may
+pub any-form : {b : Bool} (c : Bool) (fs : List Field) (f : Field) → ofTrace (f .tag) ≡ true → RightForm b fs f → RightForm c fs f
+unfolding mayCome mayFollow cardWhole
+any-form c fs f o h = record { tag = rw o (rw o at (h .tag)); size = h .size; whole = h .whole }
+
+pub no-more : (fs : List Field) (f : Field) → RightForm true fs f → cardWhole fs ≡ true → ofTrace (f .tag) ≡ false → ⊥
+unfolding mayCome mayFollow cardWhole
+no-more fs f h w o = let e : false ≡ true = rw (w, o) at (h .tag) in let z : _≡_ {A = ℕ} 0 1 = cc in omega arith
+
+pub entry-tag : (t : ℕ) → t ≡ 32 → ofTrace t ≡ true
+unfolding ofTrace
+entry-tag t e = rw (eq-eqb t 32 e)
+
+pub end-tag : (t : ℕ) → t ≡ 33 → ofTrace t ≡ true
+unfolding ofTrace
+end-tag t e = rw e
+
+-- the tags of a right card lie within the table's groups
+within-next : (fs : List Field) (t : ℕ) → Follows fs t → (fs ≡ []) ⊎ Within groups (lastTag fs) → Within groups t
+within-next fs t (begins w l g) p = begins-within t g
+within-next fs t (goes-on w e) (inl n) = rw (e, n) (unfold lastTag in first-within)
+within-next fs t (goes-on w e) (inr p) = rw e (next-within (lastTag fs) p (unfold cardWhole in w))
+
+within : (fs : List Field) → CardRight fs → (fs ≡ []) ⊎ Within groups (lastTag fs)
+unfolding lastTag CardRight
+within [] r = inl refl
+within (f ∷ fs) r = inr (within-next fs (f .tag) (follows f fs (r .0) (r .1)) (within fs (r .3)))
+
+pub next-small : (fs : List Field) → CardRight fs → cardWhole fs ≡ false → suc (lastTag fs) < 32
+unfolding cardWhole
+next-small fs r w = go fs w (within fs r)
+  where
+    go : (fs : List Field) → endsGroup groups (lastTag fs) ≡ false → (fs ≡ []) ⊎ Within groups (lastTag fs) → suc (lastTag fs) < 32
+    go fs w (inl e) = rw e (unfold lastTag in omega arith)
+    go fs w (inr p) = within-small (suc (lastTag fs)) (next-within (lastTag fs) p w)
+
+-- they rise, so a card has no more fields than its newest tag says
+pub tags-rise : (fs : List Field) → CardRight fs → length fs ≤ lastTag fs
+unfolding lastTag CardRight
+tags-rise [] r = omega arith
+tags-rise (f ∷ fs) r = go (follows f fs (r .0) (r .1)) (tags-rise fs (r .3))
+  where
+    go : Follows fs (f .tag) → length fs ≤ lastTag fs → suc (length fs) ≤ f .tag
+    go (begins w l g) h = omega arith
+    go (goes-on w e) h = omega arith
+
+pub tag-below : (fs : List Field) → CardRight fs → lastTag fs < 32
+tag-below fs r = ⊎-elim
+    (λ (e : fs ≡ []). rw e (unfold lastTag in omega arith))
+    (λ (p : Within groups (lastTag fs)). within-small (lastTag fs) p)
+    (within fs r)
+
+-- a field of the card that may come has a tag of the table
+pub card-tag : {b : Bool} (fs : List Field) (f : Field) → CardRight fs → RightForm b fs f → ofTrace (f .tag) ≡ false → (1 ≤ f .tag) × (f .tag ≤ 22)
+unfolding Within groups _upTo_
+card-tag fs f r h o = bounds (f .tag) (within-next fs (f .tag) (follows f fs h o) (within fs r))
+  where
+    bounds : (t : ℕ) → Within groups t → (1 ≤ t) × (t ≤ 22)
+    bounds t (inl p) = (p .0, omega arith)
+    bounds t (inr (inl p)) = (omega arith, p .1)
+    bounds t (inr (inr p)) = absurd p
 
 data Kind (fs : List Field) (f : Field) : Type 0 where
-  of-card : cardWhole fs ≡ false → Kind fs f
+  of-card : ofTrace (f .tag) ≡ false → Kind fs f
   of-entry : cardWhole fs ≡ true → f .tag ≡ 32 → Kind fs f
   of-end : cardWhole fs ≡ true → f .tag ≡ 33 → Kind fs f
 
-kind : (fs : List Field) (f : Field) → RightForm fs f → Kind fs f
-unfolding mayCome
-kind fs f h = go (cardWhole fs) refl
+kind : {b : Bool} (fs : List Field) (f : Field) → CardRight fs → RightForm b fs f → Kind fs f
+unfolding ofTrace mayCome mayFollow cardWhole
+kind {b} fs f r h = ⊎-elim
+    (λ (p : (f .tag ≡ 32) × (eqb (f .tag) 32 ≡ true)). of-entry (behind (omega (arith, p .0))) (p .0))
+    (λ (p : (f .tag ≡ 32 → ⊥) × (eqb (f .tag) 32 ≡ false)). ⊎-elim
+    (λ (q : (f .tag ≡ 33) × (eqb (f .tag) 33 ≡ true)). of-end (behind (omega (arith, q .0))) (q .0))
+    (λ (q : (f .tag ≡ 33 → ⊥) × (eqb (f .tag) 33 ≡ false)). of-card (rw (p .1, q .1)))
+    (eq-cases (f .tag) 33))
+    (eq-cases (f .tag) 32)
   where
-    go : (x : Bool) → cardWhole fs ≡ x → Kind fs f
-    go false w = of-card w
-    go true w = ⊎-elim
-        (λ (q : (f .tag ≡ 32) × (eqb (f .tag) 32 ≡ true)). of-entry w (q .0))
-        (λ (q : (f .tag ≡ 32 → ⊥) × (eqb (f .tag) 32 ≡ false)). of-end w (eqb-true (f .tag) 33 (rw (w, q .1) at (h .tag))))
-        (eq-cases (f .tag) 32)
+    behind : 31 < f .tag → cardWhole fs ≡ true
+    behind l = go (cardWhole fs) refl
+      where
+        go : (x : Bool) → cardWhole fs ≡ x → cardWhole fs ≡ true
+        go true w = w
+        go false w = absurd (never (eqb-true (f .tag) (suc (lastTag fs)) (rw w at (h .tag))) (next-small fs r w))
+          where
+            never : f .tag ≡ suc (lastTag fs) → suc (lastTag fs) < 32 → ⊥
+            never e k = omega arith
 
 module _ (fs : List Field) (past : Past) (at : ℕ) where
-  card-step : (f : Field) (rest : List ℕ) → CardRight fs → RightForm fs f → cardWhole fs ≡ false →
-      byHead fs past at (whole f rest) ≡ cardStep fs past at f rest
-  unfolding byHead
-  card-step f rest r h w =
-      let same : f .tag ≡ nextTag fs = follows f fs h w in
-      let small : nextTag fs ≤ 18 = next-small fs r w in
-      rw (ne-eqb (f .tag) 32 (omega arith), ne-eqb (f .tag) 33 (omega arith))
+  card-step : (f : Field) (rest : List ℕ) → ofTrace (f .tag) ≡ false → byHead fs past at (whole f rest) ≡ cardStep fs past at f rest
+  unfolding byHead ofTrace
+  card-step f rest o = go (eqb (f .tag) 32) (eqb (f .tag) 33) o
+    where
+      go : (x y : Bool) → (x || y) ≡ false →
+          cond x (entryStep fs past at f rest) (cond y (endStep fs past at f rest) (cardStep fs past at f rest)) ≡ cardStep fs past at f rest
+      go false false e = refl
+      go false true e = let z : _≡_ {A = ℕ} 0 1 = cc in absurd (omega arith)
+      go true y e = let z : _≡_ {A = ℕ} 0 1 = cc in absurd (omega arith)
 
   entry-step : (f : Field) (rest : List ℕ) → f .tag ≡ 32 → byHead fs past at (whole f rest) ≡ entryStep fs past at f rest
   unfolding byHead
@@ -71,7 +173,7 @@ module _ (fs : List Field) (past : Past) (at : ℕ) where
   unfolding byHead
   end-step f rest t = rw (ne-eqb (f .tag) 32 (omega arith), eq-eqb (f .tag) 33 t)
 
-  card-says : (f : Field) (rest : List ℕ) → RightForm fs f → cardWhole fs ≡ false → StepSays fs past at (bytesOf f ++ rest) (cardStep fs past at f rest)
+  card-says : (f : Field) (rest : List ℕ) → RightForm (begun past) fs f → ofTrace (f .tag) ≡ false → StepSays fs past at (bytesOf f ++ rest) (cardStep fs past at f rest)
   unfolding cardStep
   card-says f rest h w = go (fieldGood fs f) refl
     where
@@ -80,17 +182,17 @@ module _ (fs : List Field) (past : Past) (at : ℕ) where
       go true g = card-on f rest h w g
       go false g = stops (four f rest h w g)
 
-  entry-says : (f : Field) (rest : List ℕ) → RightForm fs f → cardWhole fs ≡ true → f .tag ≡ 32 →
+  entry-says : (f : Field) (rest : List ℕ) → RightForm (begun past) fs f → cardWhole fs ≡ true → f .tag ≡ 32 →
       StepSays fs past at (bytesOf f ++ rest) (entryStep fs past at f rest)
   unfolding entryStep orRefused
   entry-says f rest h w t = go (entryRefusal (cardOf fs) past (entryOf f)) refl
     where
       go : (o : Option Refusal) → entryRefusal (cardOf fs) past (entryOf f) ≡ o →
-          StepSays fs past at (bytesOf f ++ rest) (orRefused at o (goesOn fs (taken (cardOf fs) past (entryOf f) ∷ past) (at + sizeOf f) rest))
+          StepSays fs past at (bytesOf f ++ rest) (orRefused at o (goesOn fs (pastWith (cardOf fs) past (entryOf f)) (at + sizeOf f) rest))
       go none e = entry-on f rest h w t (entry-decides (cardOf fs) past (entryOf f) .passing .0 e)
       go (some x) e = stops (entry f rest x h w t (entry-decides (cardOf fs) past (entryOf f) .failing-so x .0 e))
 
-  end-says : (f : Field) (rest : List ℕ) → RightForm fs f → cardWhole fs ≡ true → f .tag ≡ 33 →
+  end-says : (f : Field) (rest : List ℕ) → RightForm (begun past) fs f → cardWhole fs ≡ true → f .tag ≡ 33 →
       StepSays fs past at (bytesOf f ++ rest) (endStep fs past at f rest)
   unfolding endStep orRefused closing
   end-says f rest h w t = go rest (endRefusal (cardOf fs) past (endOf f)) refl
@@ -103,29 +205,29 @@ module _ (fs : List Field) (past : Past) (at : ℕ) where
 
   pub step-says : CardRight fs → (bs : List ℕ) → StepSays fs past at bs (stepOf fs past at bs)
   unfolding stepOf
-  step-says r bs = by-head (head-says fs bs)
+  step-says r bs = by-head (head-says (begun past) fs bs)
     where
-      by-kind : (f : Field) (rest : List ℕ) → RightForm fs f → Kind fs f → StepSays fs past at (bytesOf f ++ rest) (byHead fs past at (whole f rest))
-      by-kind f rest h (of-card w) = rw (card-step f rest r h w) (card-says f rest h w)
+      by-kind : (f : Field) (rest : List ℕ) → RightForm (begun past) fs f → Kind fs f → StepSays fs past at (bytesOf f ++ rest) (byHead fs past at (whole f rest))
+      by-kind f rest h (of-card w) = rw (card-step f rest w) (card-says f rest h w)
       by-kind f rest h (of-entry w t) = rw (entry-step f rest t) (entry-says f rest h w t)
       by-kind f rest h (of-end w t) = rw (end-step f rest t) (end-says f rest h w t)
 
-      by-head : {cs : List ℕ} {h : Head} → HeadSays fs cs h → StepSays fs past at cs (byHead fs past at h)
-      by-head (is-whole f rest h) = by-kind f rest h (kind fs f h)
+      by-head : {cs : List ℕ} {h : Head} → HeadSays (begun past) fs cs h → StepSays fs past at cs (byHead fs past at h)
+      by-head (is-whole f rest h) = by-kind f rest h (kind fs f r h)
       by-head (is-cut c) = unfold byHead in stops (one c)
       by-head (is-bad-tag m) = unfold byHead in stops (two m)
       by-head (is-bad-length m g) = unfold byHead in stops (three m g)
 
-  by-its-head : {bs : List ℕ} {h : Head} → HeadSays fs bs h → stepOf fs past at bs ≡ byHead fs past at h
+  by-its-head : {bs : List ℕ} {h : Head} → HeadSays (begun past) fs bs h → stepOf fs past at bs ≡ byHead fs past at h
   unfolding stepOf
-  by-its-head h = ap (byHead fs past at) (head-only fs h)
+  by-its-head h = ap (byHead fs past at) (head-only (begun past) fs h)
 
   ends-only : CardRight fs → {bs : List ℕ} {v : FileVerdict} → Ends fs past at bs v → stepOf fs past at bs ≡ ends v
   unfolding cardStep entryStep endStep orRefused closing
   ends-only r (one c) = by-its-head (is-cut c) ∙ unfold byHead in refl
   ends-only r (two m) = by-its-head (is-bad-tag m) ∙ unfold byHead in refl
   ends-only r (three m g) = by-its-head (is-bad-length m g) ∙ unfold byHead in refl
-  ends-only r (four f bs h w g) = by-its-head (is-whole f bs h) ∙ card-step f bs r h w ∙ rw g
+  ends-only r (four f bs h w g) = by-its-head (is-whole f bs h) ∙ card-step f bs w ∙ rw g
   ends-only r (entry f bs x h w t p) =
       by-its-head (is-whole f bs h) ∙ entry-step f bs t ∙ rw (entry-decides (cardOf fs) past (entryOf f) .failing-so x .1 p)
   ends-only r (end f bs x h w t p) =
@@ -136,7 +238,7 @@ module _ (fs : List Field) (past : Past) (at : ℕ) where
 
   pub step-only : CardRight fs → {bs : List ℕ} {s : Step} → StepSays fs past at bs s → stepOf fs past at bs ≡ s
   unfolding cardStep entryStep orRefused
-  step-only r (card-on f rest h w g) = by-its-head (is-whole f rest h) ∙ card-step f rest r h w ∙ rw g
+  step-only r (card-on f rest h w g) = by-its-head (is-whole f rest h) ∙ card-step f rest w ∙ rw g
   step-only r (entry-on f rest h w t p) =
       by-its-head (is-whole f rest h) ∙ entry-step f rest t ∙ rw (entry-decides (cardOf fs) past (entryOf f) .passing .1 p)
   step-only r (stops e) = ends-only r e

@@ -1,55 +1,28 @@
 -- Demand 3's consequence: where each refresh of a bank takes the next of its R row groups in turn, from any first group, every row group is taken in
--- every stretch of (R + 17)·I cycles of an accepted trace, and two takings of one group in a row are at most that far apart.
+-- every stretch of (R + 17)·I counted cycles of an accepted trace, and two takings of one group in a row are at most that far apart.
 use Prim.Native.Nat.{ℕ, suc, _+_, _*_, _-_, _/_, _%_, _≤_, _<_}
 use mathlib.Core.Path.{_≡_, refl, ap, _∙_, subst}
 use mathlib.Core.Logic.{_⊎_, inl, inr, ⊎-elim}
-use mathlib.Core.Bool.{Bool, true, false, cond}
+use mathlib.Core.Bool.{true, false}
 use mathlib.Core.List.{List, [], _∷_}
-use native.Mathlib.Nat.{div-add-mod', mod-lt, mul-div-cancel}
+use native.Mathlib.Nat.{div-add-mod', mod-lt, le-div-iff-mul-le}
 use native.Mathlib.Omega.{arith}
 use lib.Arith.{digits-mod}
-use lib.Dec.{ltb, eqb, leb}
+use lib.Dec.{ltb, eqb}
 use lib.IntN.{ℤ}
 use lib.ListN.{length}
 use Rattle.rules.specs.Card.{Card}
 use Rattle.rules.specs.Units.{interval}
-use Rattle.rules.specs.Commands.{Command}
-use Rattle.rules.specs.Past.{Past, counterAt, refreshes, stampsWhere, refreshStamps}
+use Rattle.rules.specs.Past.{refreshes, refreshStamps}
 use Rattle.rules.specs.Entries.{Entry, pastOf}
 use Rattle.rules.specs.Verdict.{accepted, judge}
+use Rattle.rules.specs.Clock.{countedFrom}
 use Rattle.rules.specs.Stretch.{countIn, Took}
-use Rattle.rules.proofs.Tests.{lt-cases, le-cases, eq-cases}
+use Rattle.rules.proofs.Tests.{lt-cases, eq-cases}
 use Rattle.rules.proofs.Counted.{below, count-below}
-use Rattle.rules.proofs.Rounds.{AllBelow, Rising}
+use Rattle.rules.proofs.Rounds.{Less, Falling, less-where, falling-where}
+use Rattle.rules.proofs.Clocks.{one-at-most, Counting, counted-all}
 use Rattle.rules.proofs.Refreshed.{traced, refreshed}
-
--- stamps that fall along the list
-unfoldable pub Less : ℕ → List ℕ → Type 0
-Less m [] = Unit {0}
-Less m (s ∷ ss) = (s < m) × Less m ss
-
-unfoldable pub Falling : List ℕ → Type 0
-Falling [] = Unit {0}
-Falling (s ∷ ss) = Less s ss × Falling ss
-
-module _ (p : Command → ℕ → Bool) where
-  pub less-where : (m : ℕ) (past : Past) → AllBelow m past → Less m (stampsWhere p past)
-  unfolding Less AllBelow stampsWhere
-  less-where m [] h = tt
-  less-where m (e ∷ t) h = go (p (e .cmd) (counterAt t)) (less-where m t (h .1))
-    where
-      go : (x : Bool) → Less m (stampsWhere p t) → Less m (cond x (e .stamp ∷ stampsWhere p t) (stampsWhere p t))
-      go true ih = (h .0, ih)
-      go false ih = ih
-
-  pub falling-where : (past : Past) → Rising past → Falling (stampsWhere p past)
-  unfolding Falling Rising stampsWhere
-  falling-where [] r = tt
-  falling-where (e ∷ t) r = go (p (e .cmd) (counterAt t)) (falling-where t (r .1))
-    where
-      go : (x : Bool) → Falling (stampsWhere p t) → Falling (cond x (e .stamp ∷ stampsWhere p t) (stampsWhere p t))
-      go true ih = (less-where (e .stamp) t (r .0), ih)
-      go false ih = ih
 
 below-all : (m n : ℕ) (ss : List ℕ) → m ≤ n → Less m ss → below n ss ≡ length ss
 unfolding below Less
@@ -129,40 +102,46 @@ module _ (R first g : ℕ) where
   took-less m (x ∷ xs) l s (inl t) = subst (λ (y : ℕ). y < m) (t .0) (l .0)
   took-less m (x ∷ xs) l s (inr t) = took-less m xs (l .1) s t
 
-module _ (card : Card) (es : List Entry) (end m n : ℕ) (l : ℤ) (e : judge card es end ≡ accepted m n l) (positive : 0 < interval card)
+module _ (card : Card) (es : List Entry) (end m n : ℕ) (l : List ℤ) (e : judge card es end ≡ accepted m n l) (positive : 0 < interval card)
     (first b g : ℕ) (hb : b < 8) (hg : g < card .groups) where
   abbrev Taken-at : ℕ → Type 0
   Taken-at s = Took (card .groups) first g (refreshStamps b (pastOf card es)) s
 
-  -- the group is taken in every such stretch
-  pub every-group : (a : ℕ) → a + (card .groups + 17) * interval card ≤ end + 1 →
-      (s : ℕ) × (a ≤ s) × (s < a + (card .groups + 17) * interval card) × Taken-at s
+  -- the group is taken in every stretch of n cycles that has so many counted ones
+  pub every-group : (a n : ℕ) → a + n ≤ end + 1 → (card .groups + 17) * interval card ≤ countedFrom (pastOf card es) a n →
+      (s : ℕ) × (a ≤ s) × (s < a + n) × Taken-at s
   unfolding refreshStamps
-  every-group a h =
-      enough (card .groups) first g a (a + (card .groups + 17) * interval card) (refreshStamps b (pastOf card es))
+  every-group a k h c =
+      enough (card .groups) first g a (a + k) (refreshStamps b (pastOf card es))
       (falling-where (refreshes b) (pastOf card es) (traced card es end m n l e .rising)) (omega arith) hg
       (omega (
         arith,
-        refreshed card es end m n l e b a ((card .groups + 17) * interval card) hb h,
-        mul-div-cancel (card .groups + 17) positive,
+        refreshed card es end m n l e b a k hb h,
+        le-div-iff-mul-le {x = card .groups + 17} {y = countedFrom (pastOf card es) a k} positive .1 c,
       ))
 
-  -- two takings with none between
+  -- two takings with none between: as many counted cycles at most after the one, up to and with the other
   pub in-a-row : (s t : ℕ) → Taken-at s → Taken-at t → s < t → ((u : ℕ) → Taken-at u → (u ≤ s) ⊎ (t ≤ u)) →
-      t ≤ s + (card .groups + 17) * interval card
+      countedFrom (pastOf card es) (suc s) (t - s) ≤ (card .groups + 17) * interval card
   in-a-row s t hs ht lt next = ⊎-elim
-      (λ (q : (t ≤ s + (card .groups + 17) * interval card) × (leb t (s + (card .groups + 17) * interval card) ≡ true)). q .0)
-      (λ (q : (s + (card .groups + 17) * interval card < t) × (leb t (s + (card .groups + 17) * interval card) ≡ false)).
-      absurd (between (q .0) (every-group (suc s) (omega (arith, last)))))
-      (le-cases t (s + (card .groups + 17) * interval card))
+      (λ (q : (Between < Most) × (ltb Between Most ≡ true)).
+      let z : t - s ≡ suc (t - suc s) = omega arith in
+      rw z (omega (arith, q .0, one-at-most (pastOf card es) (suc s) (t - suc s))))
+      (λ (q : (Most ≤ Between) × (ltb Between Most ≡ false)). absurd (between (every-group (suc s) (t - suc s) (omega (arith, last)) (q .0))))
+      (lt-cases Between Most)
     where
+      Between : ℕ
+      Between = countedFrom (pastOf card es) (suc s) (t - suc s)
+
+      Most : ℕ
+      Most = (card .groups + 17) * interval card
+
       last : t < suc end
       last = unfold refreshStamps in took-less (card .groups) first g (suc end) (refreshStamps b (pastOf card es))
           (less-where (refreshes b) (suc end) (pastOf card es) (traced card es end m n l e .ended)) t ht
 
-      between : s + (card .groups + 17) * interval card < t →
-          (u : ℕ) × (suc s ≤ u) × (u < suc s + (card .groups + 17) * interval card) × Taken-at u → ⊥
-      between far u = ⊎-elim
+      between : (u : ℕ) × (suc s ≤ u) × (u < suc s + (t - suc s)) × Taken-at u → ⊥
+      between u = ⊎-elim
           (λ (x : u .0 ≤ s). clash (u .1) x)
           (λ (x : t ≤ u .0). clash′ (u .2) x)
           (next (u .0) (u .3))
@@ -170,5 +149,17 @@ module _ (card : Card) (es : List Entry) (end m n : ℕ) (l : ℤ) (e : judge ca
           clash : suc s ≤ u .0 → u .0 ≤ s → ⊥
           clash x y = omega arith
 
-          clash′ : u .0 < suc s + (card .groups + 17) * interval card → t ≤ u .0 → ⊥
+          clash′ : u .0 < suc s + (t - suc s) → t ≤ u .0 → ⊥
           clash′ x y = omega arith
+
+  -- where every cycle counts: in every stretch of so many cycles, and so far apart at most
+  module _ (c : Counting (pastOf card es)) where
+    pub every-group-awake : (a : ℕ) → a + (card .groups + 17) * interval card ≤ end + 1 →
+        (s : ℕ) × (a ≤ s) × (s < a + (card .groups + 17) * interval card) × Taken-at s
+    every-group-awake a h = every-group a ((card .groups + 17) * interval card) h (rw (counted-all (pastOf card es) c a _) (omega arith))
+
+    pub in-a-row-awake : (s t : ℕ) → Taken-at s → Taken-at t → s < t → ((u : ℕ) → Taken-at u → (u ≤ s) ⊎ (t ≤ u)) →
+        t ≤ s + (card .groups + 17) * interval card
+    in-a-row-awake s t hs ht lt next =
+        let k : t - s ≤ (card .groups + 17) * interval card = rw (counted-all (pastOf card es) c (suc s) (t - s)) at (in-a-row s t hs ht lt next) in
+        omega arith

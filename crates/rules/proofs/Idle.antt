@@ -1,8 +1,8 @@
 -- The account over idle time in closed form, from a ledger that stands as after some cycle: the ledger then, and the first cycle that fails, from two facts
 -- about how cycles add dues (`Counts`). And the account of a list, from its last counted refresh on, is idle time.
-use Prim.Native.Nat.{ℕ, zero, suc, _+_, _*_, _-_, _/_, _≤_, _<_, min, max}
+use Prim.Native.Nat.{ℕ, zero, suc, _+_, _*_, _-_, _≤_, _<_, min, max}
 use mathlib.Core.Path.{_≡_, refl, ap, sym, _∙_, subst}
-use mathlib.Core.Logic.{_⊎_, ⊎-elim}
+use mathlib.Core.Logic.{⊎-elim}
 use mathlib.Core.Bool.{true, false, cond}
 use mathlib.Core.List.{List, [], _∷_}
 use mathlib.Core.Option.{Option, none, some}
@@ -13,16 +13,28 @@ use lib.IntN.{subℕ}
 use borrow.Author.Tests.{le-leb, lt-leb, ne-eqb}
 use Rattle.rules.specs.Lists.{isOneOf}
 use Rattle.rules.specs.Folds.{orElse}
-use Rattle.rules.specs.Account.{Terms, ledgerBefore, ledgerAfter, lastCounted, failing, failingAt, firstFailing, cycle, idle, firstIdle}
+use Rattle.rules.specs.Account.{Terms, Schedule, Beat, fallen, nextAfter, steady, ledgerBefore, ledgerAfter, lastCounted, failing, Book, ledgerOn, lastOn, failingOn, firstOn, cycle, idle, firstIdle}
 use Rattle.rules.proofs.Tests.{lt-cases, le-cases, eq-cases}
-use Rattle.rules.proofs.Biased.{due, cycle-biased, owing, failing-biased}
-use Rattle.rules.proofs.Dues.{Counts, multiples}
-use Rattle.rules.proofs.Decided.{or-none}
-use Rattle.rules.proofs.Groups.{Less}
+use Rattle.rules.proofs.Biased.{due, owed, cycle-biased, owing, failing-biased}
+use Rattle.rules.proofs.Dues.{Counts, beats, reach-is}
+use Rattle.rules.proofs.Decided.{or-none, or-assoc}
+use Rattle.rules.proofs.Rounds.{Less}
 
--- ---- by any way in which cycles add dues
-module _ (I : ℕ) (by : Counts (due I)) where
-  -- the biased ledger o after cycle s, at cycle t with no counted refresh since
+-- ---- by any schedule: j numbers after number n
+unfoldable pub owedIn : Schedule → (n o j : ℕ) → ℕ
+owedIn d n o zero = o
+owedIn d n o (suc j) = owedIn d n o j + due d (n + suc j)
+
+pub idle-biased : (d : Schedule) (k o n j : ℕ) → idle k d (subℕ o k) n j ≡ subℕ (owedIn d n o j) k
+unfolding idle owedIn
+idle-biased d k o n zero = refl
+idle-biased d k o n (suc j) =
+    let z : owedIn d n o j + due d (n + suc j) - 0 ≡ owedIn d n o j + due d (n + suc j) = omega arith in
+    rw (idle-biased d k o n j) (cycle-biased k d false (n + suc j) (owedIn d n o j) ∙ ap (λ (x : ℕ). subℕ x k) z)
+
+-- ---- by any way in which numbers add dues
+module _ (d : Schedule) (by : Counts (due d)) where
+  -- the biased ledger o after number s, at number t with no counted refresh since
   unfoldable owedBy : (s o t : ℕ) → ℕ
   owedBy s o t = o + (by .upTo t - by .upTo s)
 
@@ -33,15 +45,13 @@ module _ (I : ℕ) (by : Counts (due I)) where
   rise-to : (s t : ℕ) → s ≤ t → by .upTo s ≤ by .upTo t
   rise-to s t h = let z : s + (t - s) ≡ t = omega arith in subst (λ (u : ℕ). by .upTo s ≤ by .upTo u) z (rise s (t - s))
 
-  owed-by : (s o j : ℕ) → owedBy s o (s + j) + due I (suc (s + j)) - 0 ≡ owedBy s o (suc (s + j))
-  unfolding owedBy
-  owed-by s o j = omega (arith, by .next (s + j), rise s j)
+  owed-in : (s o j : ℕ) → owedIn d s o j ≡ owedBy s o (s + j)
+  unfolding owedIn owedBy
+  owed-in s o zero = rw add-zero (omega arith)
+  owed-in s o (suc j) = rw (owed-in s o j, add-suc) (omega (arith, by .next (s + j), rise s j))
 
-  idle-by : (k o s j : ℕ) → idle k I (subℕ o k) s j ≡ subℕ (owedBy s o (s + j)) k
-  unfolding idle owedBy
-  idle-by k o s zero = let z : o ≡ o + (by .upTo (s + 0) - by .upTo s) = rw add-zero (omega arith) in ap (λ (n : ℕ). subℕ n k) z
-  idle-by k o s (suc j) =
-      rw (idle-by k o s j, add-suc) (cycle-biased k I false (suc (s + j)) (owedBy s o (s + j)) ∙ ap (λ (n : ℕ). subℕ n k) (owed-by s o j))
+  idle-by : (k o s j : ℕ) → idle k d (subℕ o k) s j ≡ subℕ (owedBy s o (s + j)) k
+  idle-by k o s j = idle-biased d k o s j ∙ ap (λ (x : ℕ). subℕ x k) (owed-in s o j)
 
 -- the first cycle at which 20 fails, and the first after cycle s
 unfoldable pub next20 : Terms → (I last : ℕ) → ℕ
@@ -78,7 +88,7 @@ place n m = ⊎-elim
     (lt-cases n m)
 
 -- both rules at cycle n, given the first cycles at which they fail
-unfoldable pub overdue : Terms → (x y n : ℕ) → Option (ℕ × ℕ)
+unfoldable overdue : Terms → (x y n : ℕ) → Option (ℕ × ℕ)
 overdue k x y n = cond (leb x n) (some (k .limitRule, n)) (cond (leb y n) (some (k .gapRule, n)) none)
 
 first-step : (k : Terms) (x y n : ℕ) → orElse (firstNext k x y n) (overdue k x y n) ≡ firstNext k x y (suc n)
@@ -103,17 +113,19 @@ first-step k x y n = ⊎-elim early late (le-cases x y)
         go (here h a b c) = rw (a, b, c, lt-leb x n (omega (arith, p .0))) (ap (fails (k .gapRule)) h)
         go (behind h a b) = rw (a, b)
 
-module _ (k : Terms) (I : ℕ) (by : Counts (due I)) (s o last : ℕ) (le : o ≤ k .credit + k .limit) where
+-- the schedule keeps its interval I after number s, and the gap counts from number `since`
+module _ (k : Terms) (d : Schedule) (by : Counts (due d)) (I s o last since : ℕ) (le : o ≤ k .credit + k .limit)
+    (steady : (n : ℕ) → s < n → (d .since last n ≡ since) × (d .span n ≡ I)) where
   -- the first cycle at which 19 fails
   unfoldable nextBy : ℕ
   nextBy = by .reach (k .credit + k .limit + 1 + by .upTo s - o)
 
-  limit-at : (t : ℕ) → s ≤ t → leb (owedBy I by s o t) (k .credit + k .limit) ≡ leb (suc t) nextBy
+  limit-at : (t : ℕ) → s ≤ t → leb (owedBy d by s o t) (k .credit + k .limit) ≡ leb (suc t) nextBy
   unfolding owedBy nextBy
   limit-at t h = ⊎-elim
       (λ (q : (by .reach (k .credit + k .limit + 1 + by .upTo s - o) ≤ t) × (leb (by .reach (k .credit + k .limit + 1 + by .upTo s - o)) t ≡ true)).
       let r : k .credit + k .limit + 1 + by .upTo s - o ≤ by .upTo t = by .reached _ t .0 (q .0) in
-      lt-leb (o + (by .upTo t - by .upTo s)) (k .credit + k .limit) (omega (arith, rise-to I by s t h)) ∙ sym (lt-leb (suc t) _ (omega (arith, q .0))))
+      lt-leb (o + (by .upTo t - by .upTo s)) (k .credit + k .limit) (omega (arith, rise-to d by s t h)) ∙ sym (lt-leb (suc t) _ (omega (arith, q .0))))
       (λ (q : (t < by .reach (k .credit + k .limit + 1 + by .upTo s - o)) × (leb (by .reach (k .credit + k .limit + 1 + by .upTo s - o)) t ≡ false)).
       le-leb (o + (by .upTo t - by .upTo s)) (k .credit + k .limit) (under (q .0)) ∙ sym (le-leb (suc t) _ (q .0)))
       (le-cases (by .reach (k .credit + k .limit + 1 + by .upTo s - o)) t)
@@ -123,36 +135,36 @@ module _ (k : Terms) (I : ℕ) (by : Counts (due I)) (s o last : ℕ) (le : o �
           (λ (q : (k .credit + k .limit + 1 + by .upTo s - o ≤ by .upTo t) × (leb (k .credit + k .limit + 1 + by .upTo s - o) (by .upTo t) ≡ true)).
           absurd (clash (by .reached _ t .1 (q .0))))
           (λ (q : (by .upTo t < k .credit + k .limit + 1 + by .upTo s - o) × (leb (k .credit + k .limit + 1 + by .upTo s - o) (by .upTo t) ≡ false)).
-          omega (arith, rise-to I by s t h))
+          omega (arith, rise-to d by s t h))
           (le-cases (k .credit + k .limit + 1 + by .upTo s - o) (by .upTo t))
         where
           clash : by .reach (k .credit + k .limit + 1 + by .upTo s - o) ≤ t → ⊥
           clash r = omega arith
 
-  gap-at : (t : ℕ) → s < t → leb (t - last) (k .gap * I) ≡ leb (suc t) (after20 k I s last)
+  gap-at : (t : ℕ) → s < t → leb (t - since) (k .gap * I) ≡ leb (suc t) (after20 k I s since)
   unfolding after20 next20
   gap-at t h = ⊎-elim
-      (λ (q : (t - last ≤ k .gap * I) × (leb (t - last) (k .gap * I) ≡ true)). q .1 ∙ sym (le-leb (suc t) (max (suc s) (last + k .gap * I + 1)) (omega arith)))
-      (λ (q : (k .gap * I < t - last) × (leb (t - last) (k .gap * I) ≡ false)). q .1 ∙ sym (lt-leb (suc t) (max (suc s) (last + k .gap * I + 1)) (omega arith)))
-      (le-cases (t - last) (k .gap * I))
+      (λ (q : (t - since ≤ k .gap * I) × (leb (t - since) (k .gap * I) ≡ true)). q .1 ∙ sym (le-leb (suc t) (max (suc s) (since + k .gap * I + 1)) (omega arith)))
+      (λ (q : (k .gap * I < t - since) × (leb (t - since) (k .gap * I) ≡ false)). q .1 ∙ sym (lt-leb (suc t) (max (suc s) (since + k .gap * I + 1)) (omega arith)))
+      (le-cases (t - since) (k .gap * I))
 
-  owing-at : (t : ℕ) → s < t → owing k I (owedBy I by s o t) last t ≡ overdue k nextBy (after20 k I s last) t
+  owing-at : (t : ℕ) → s < t → owing k d (owedBy d by s o t) last t t ≡ overdue k nextBy (after20 k I s since) t
   unfolding owing overdue
-  owing-at t h = rw (limit-at t (le-of-lt h), gap-at t h) (go (place t nextBy) (place t (after20 k I s last)))
+  owing-at t h = rw (steady t h .0, steady t h .1, limit-at t (le-of-lt h), gap-at t h) (go (place t nextBy) (place t (after20 k I s since)))
     where
-      inner : Place t (after20 k I s last) → cond (leb (suc t) (after20 k I s last)) none (fails (k .gapRule) t) ≡ cond (leb (after20 k I s last) t) (fails (k .gapRule) t) none
+      inner : Place t (after20 k I s since) → cond (leb (suc t) (after20 k I s since)) none (fails (k .gapRule) t) ≡ cond (leb (after20 k I s since) t) (fails (k .gapRule) t) none
       inner (ahead h a b c) = rw (b, c)
       inner (here h a b c) = rw (b, c)
-      inner (behind h a b) = rw (b, le-leb (after20 k I s last) t (le-of-lt h))
+      inner (behind h a b) = rw (b, le-leb (after20 k I s since) t (le-of-lt h))
 
-      go : Place t nextBy → Place t (after20 k I s last) →
-          cond (leb (suc t) nextBy) (cond (leb (suc t) (after20 k I s last)) none (fails (k .gapRule) t)) (fails (k .limitRule) t)
-          ≡ cond (leb nextBy t) (fails (k .limitRule) t) (cond (leb (after20 k I s last) t) (fails (k .gapRule) t) none)
+      go : Place t nextBy → Place t (after20 k I s since) →
+          cond (leb (suc t) nextBy) (cond (leb (suc t) (after20 k I s since)) none (fails (k .gapRule) t)) (fails (k .limitRule) t)
+          ≡ cond (leb nextBy t) (fails (k .limitRule) t) (cond (leb (after20 k I s since) t) (fails (k .gapRule) t) none)
       go (ahead h a b c) q = rw (b, c) (inner q)
       go (here h a b c) q = rw (b, c)
       go (behind h a b) q = rw (b, le-leb nextBy t (le-of-lt h))
 
-  starts : suc s ≤ min nextBy (after20 k I s last)
+  starts : suc s ≤ min nextBy (after20 k I s since)
   unfolding nextBy after20
   starts = ⊎-elim
       (λ (q : (by .reach (k .credit + k .limit + 1 + by .upTo s - o) ≤ s) × (leb (by .reach (k .credit + k .limit + 1 + by .upTo s - o)) s ≡ true)).
@@ -164,36 +176,55 @@ module _ (k : Terms) (I : ℕ) (by : Counts (due I)) (s o last : ℕ) (le : o �
       clash r = omega arith
 
   -- the first failing cycle of idle time
-  closed-by : (j : ℕ) → firstIdle k I (subℕ o (k .credit)) last s j ≡ firstNext k nextBy (after20 k I s last) (suc (s + j))
+  closed-by : (j : ℕ) → firstIdle k d (subℕ o (k .credit)) last s s j ≡ firstNext k nextBy (after20 k I s since) (suc (s + j))
   unfolding firstIdle
-  closed-by zero = sym (unfold firstNext in rw (add-zero, le-leb (suc s) (min nextBy (after20 k I s last)) starts))
+  closed-by zero = sym (unfold firstNext in rw (add-zero, le-leb (suc s) (min nextBy (after20 k I s since)) starts))
   closed-by (suc j) =
-      rw (closed-by j, idle-by I by (k .credit) o s (suc j), failing-biased k I (owedBy I by s o (s + suc j)) last (s + suc j), owing-at (s + suc j) (omega arith), add-suc)
-      (first-step k nextBy (after20 k I s last) (suc (s + j)))
+      rw (closed-by j, idle-by d by (k .credit) o s (suc j), failing-biased k d (owedBy d by s o (s + suc j)) last (s + suc j) (s + suc j), owing-at (s + suc j) (omega arith), add-suc)
+      (first-step k nextBy (after20 k I s since) (suc (s + j)))
 
--- ---- by the multiples of I
-unfoldable pub owedAt : (I s o t : ℕ) → ℕ
-owedAt I s o t = o + (t / I - s / I)
+-- ---- by a beat
+unfoldable pub owedAt : Beat → (s o t : ℕ) → ℕ
+owedAt b s o t = o + (fallen b t - fallen b s)
 
-unfoldable pub next19 : Terms → (I s o : ℕ) → ℕ
-next19 k I s o = (k .credit + k .limit + 1 + s / I - o) * I
+-- the first number at which 19 fails: the next due, and one more for each that the ledger is below its limit
+unfoldable pub next19 : Terms → Beat → (s o : ℕ) → ℕ
+next19 k b s o = nextAfter b s + (k .credit + k .limit - o) * b .span
 
-module _ (I : ℕ) (positive : 0 < I) where
-  pub owed-more : (s o j : ℕ) → owedAt I s o (s + j) + due I (suc (s + j)) - 0 ≡ owedAt I s o (suc (s + j))
-  unfolding owedAt owedBy multiples
-  owed-more s o j = owed-by I (multiples I positive) s o j
-
-  pub idle-biased : (k o s j : ℕ) → idle k I (subℕ o k) s j ≡ subℕ (owedAt I s o (s + j)) k
-  unfolding owedAt owedBy multiples
-  idle-biased k o s j = idle-by I (multiples I positive) k o s j
+module _ (b : Beat) (positive : 0 < b .span) where
+  pub idle-beat : (k o s j : ℕ) → idle k (steady b) (subℕ o k) s j ≡ subℕ (owedAt b s o (s + j)) k
+  unfolding owedAt owedBy beats
+  idle-beat k o s j = idle-by (steady b) (beats b positive) k o s j
 
   pub idle-closed : (k : Terms) (s o last : ℕ) → o ≤ k .credit + k .limit → (j : ℕ) →
-      firstIdle k I (subℕ o (k .credit)) last s j ≡ firstNext k (next19 k I s o) (after20 k I s last) (suc (s + j))
-  unfolding next19 nextBy multiples
-  idle-closed k s o last le j = closed-by k I (multiples I positive) s o last le j
+      firstIdle k (steady b) (subℕ o (k .credit)) last s s j ≡ firstNext k (next19 k b s o) (after20 k (b .span) s last) (suc (s + j))
+  idle-closed k s o last le j =
+      closed-by k (steady b) (beats b positive) (b .span) s o last last le (λ n h. (refl, refl)) j
+      ∙ ap (λ (x : ℕ). firstNext k x (after20 k (b .span) s last) (suc (s + j))) reach
+    where
+      ahead : k .credit + k .limit + 1 + fallen b s - o ≡ suc (fallen b s + (k .credit + k .limit - o))
+      ahead = omega arith
 
--- ---- a list of counted refreshes, none of which comes after cycle s
-pub not-one : (s t : ℕ) (cs : List ℕ) → Less (suc s) cs → s < t → isOneOf cs t ≡ false
+      reach : nextBy k (steady b) (beats b positive) (b .span) s o last last le (λ n h. (refl, refl)) ≡ next19 k b s o
+      reach = unfold nextBy next19 beats in ap (λ (x : ℕ). beats b positive .reach x) ahead ∙ reach-is b positive s (k .credit + k .limit - o)
+
+-- ---- a counted refresh at number c changes nothing before c
+pub owed-ahead : (k : ℕ) (d : Schedule) (c : ℕ) (cs : List ℕ) (n : ℕ) → n ≤ c → owed k d (c ∷ cs) n ≡ owed k d cs n
+unfolding owed isOneOf
+owed-ahead k d c cs zero h = refl
+owed-ahead k d c cs (suc t) h = rw (owed-ahead k d c cs t (omega arith), ne-eqb c t (omega arith))
+
+pub last-ahead : (c : ℕ) (cs : List ℕ) (t : ℕ) → t < c → lastCounted (c ∷ cs) t ≡ lastCounted cs t
+unfolding lastCounted
+last-ahead c cs t h = rw (lt-leb c t h)
+
+pub not-yet : (c : ℕ) (cs : List ℕ) → Less c cs → isOneOf cs c ≡ false
+unfolding Less isOneOf
+not-yet c [] l = refl
+not-yet c (x ∷ xs) l = rw (ne-eqb x c (omega (arith, l .0)), not-yet c xs (l .1))
+
+-- ---- a list of counted refreshes, none of which comes after number s
+not-one : (s t : ℕ) (cs : List ℕ) → Less (suc s) cs → s < t → isOneOf cs t ≡ false
 unfolding Less isOneOf
 not-one s t [] l h = refl
 not-one s t (c ∷ cs) l h = rw (ne-eqb c t (differ (l .0)), not-one s t cs (l .1) h)
@@ -212,32 +243,35 @@ last-idle s t (c ∷ cs) l h = rw (le-leb c t (within (l .0)), le-leb c s (under
     under : c < suc s → c ≤ s
     under a = omega arith
 
-pub ledger-idle : (k I s : ℕ) (cs : List ℕ) → Less (suc s) cs → (j : ℕ) → ledgerAfter k I cs (s + j) ≡ idle k I (ledgerAfter k I cs s) s j
+pub ledger-idle : (k : ℕ) (d : Schedule) (s : ℕ) (cs : List ℕ) → Less (suc s) cs → (j : ℕ) → ledgerAfter k d cs (s + j) ≡ idle k d (ledgerAfter k d cs s) s j
 unfolding ledgerAfter idle
-ledger-idle k I s cs l zero = rw add-zero
-ledger-idle k I s cs l (suc j) = rw add-suc (step ∙ ap (cycle k I false (suc (s + j))) (ledger-idle k I s cs l j))
+ledger-idle k d s cs l zero = rw add-zero
+ledger-idle k d s cs l (suc j) = rw add-suc (step ∙ ap (cycle k d false (suc (s + j))) (ledger-idle k d s cs l j))
   where
-    step : ledgerBefore k I cs (suc (suc (s + j))) ≡ cycle k I false (suc (s + j)) (ledgerBefore k I cs (suc (s + j)))
+    step : ledgerBefore k d cs (suc (suc (s + j))) ≡ cycle k d false (suc (s + j)) (ledgerBefore k d cs (suc (s + j)))
     step = unfold ledgerBefore in rw (not-one s (suc (s + j)) cs l (omega arith))
 
-first-more : (k : Terms) (I s : ℕ) (cs : List ℕ) → Less (suc s) cs → (j : ℕ) →
-    firstFailing k I cs (suc (s + suc j))
-    ≡ orElse (firstFailing k I cs (suc (s + j))) (failing k I (idle (k .credit) I (ledgerAfter (k .credit) I cs s) s (suc j)) (lastCounted cs s) (s + suc j))
-unfolding firstFailing failingAt
-first-more k I s cs l j =
-    rw (ledger-idle (k .credit) I s cs l (suc j), last-idle s (s + suc j) cs l (omega arith))
-    (ap (λ (n : ℕ). orElse (firstFailing k I cs n) (failing k I (idle (k .credit) I (ledgerAfter (k .credit) I cs s) s (suc j)) (lastCounted cs s) (s + suc j))) (add-suc s j))
+-- a book whose clock runs on from cycle t, with no counted refresh after it
+module _ (k : Terms) (b : Book) (t : ℕ) (l : Less (suc (b .clock t)) (b .refreshes)) (runs : (j : ℕ) → b .clock (t + j) ≡ b .clock t + j) where
+  ledger-later : (j : ℕ) → ledgerOn (k .credit) b (t + j) ≡ idle (k .credit) (b .schedule) (ledgerOn (k .credit) b t) (b .clock t) j
+  unfolding ledgerOn
+  ledger-later j = rw (runs j) (ledger-idle (k .credit) (b .schedule) (b .clock t) (b .refreshes) l j)
 
-pub first-idle : (k : Terms) (I s : ℕ) (cs : List ℕ) → Less (suc s) cs → (j : ℕ) →
-    firstFailing k I cs (suc (s + j)) ≡ orElse (firstFailing k I cs (suc s)) (firstIdle k I (ledgerAfter (k .credit) I cs s) (lastCounted cs s) s j)
-unfolding firstIdle
-first-idle k I s cs l zero = rw add-zero (sym (or-none (firstFailing k I cs (suc s))))
-first-idle k I s cs l (suc j) = first-more k I s cs l j ∙ ap (λ (o : Option (ℕ × ℕ)). orElse o now) (first-idle k I s cs l j) ∙ assoc (firstFailing k I cs (suc s))
-  where
-    now : Option (ℕ × ℕ)
-    now = failing k I (idle (k .credit) I (ledgerAfter (k .credit) I cs s) s (suc j)) (lastCounted cs s) (s + suc j)
+  last-later : (j : ℕ) → lastOn b (t + j) ≡ lastOn b t
+  unfolding lastOn
+  last-later j = rw (runs j) (last-idle (b .clock t) (b .clock t + j) (b .refreshes) l (omega arith))
 
-    assoc : (o : Option (ℕ × ℕ)) → orElse (orElse o (firstIdle k I (ledgerAfter (k .credit) I cs s) (lastCounted cs s) s j)) now
-        ≡ orElse o (orElse (firstIdle k I (ledgerAfter (k .credit) I cs s) (lastCounted cs s) s j) now)
-    assoc none = unfold orElse in refl
-    assoc (some x) = unfold orElse in refl
+  abbrev now : ℕ → Option (ℕ × ℕ)
+  now j = failing k (b .schedule) (idle (k .credit) (b .schedule) (ledgerOn (k .credit) b t) (b .clock t) j) (lastOn b t) (b .clock t + j) (t + j)
+
+  first-more : (j : ℕ) → firstOn k b (suc (t + suc j)) ≡ orElse (firstOn k b (suc (t + j))) (now (suc j))
+  unfolding firstOn failingOn
+  first-more j = rw (ledger-later (suc j), last-later (suc j), runs (suc j)) (ap (λ (n : ℕ). orElse (firstOn k b n) (now (suc j))) (add-suc t j))
+
+  pub first-idle : (j : ℕ) →
+      firstOn k b (suc (t + j)) ≡ orElse (firstOn k b (suc t)) (firstIdle k (b .schedule) (ledgerOn (k .credit) b t) (lastOn b t) (b .clock t) t j)
+  unfolding firstIdle
+  first-idle zero = rw add-zero (sym (or-none (firstOn k b (suc t))))
+  first-idle (suc j) =
+      first-more j ∙ ap (λ (o : Option (ℕ × ℕ)). orElse o (now (suc j))) (first-idle j)
+      ∙ or-assoc (firstOn k b (suc t)) (firstIdle k (b .schedule) (ledgerOn (k .credit) b t) (lastOn b t) (b .clock t) t j) (now (suc j))

@@ -1,23 +1,28 @@
--- Demand 3: in an accepted trace every bank is refreshed often enough in every stretch, counted in the list of entries.
+-- Demand 3: in an accepted trace every bank is refreshed often enough in every stretch, counted in the list of entries. A stretch is any run of cycles inside
+-- the trace, a sleep with it; its length is the number of its counted cycles.
 use Prim.Native.Nat.{ℕ, zero, suc, _+_, _-_, _/_, _≤_, _<_}
 use mathlib.Core.Path.{_≡_, subst}
-use mathlib.Core.List.{List, [], _∷_}
+use mathlib.Core.Bool.{false}
+use mathlib.Core.List.{List, [], _∷_, map}
 use native.Mathlib.Omega.{arith}
 use lib.Dec.{T, leb→le}
 use lib.IntN.{ℤ, pos}
 use lib.Signed.{leZ}
 use lib.ListN.{length}
+use Rattle.rules.specs.Lists.{Every}
 use Rattle.rules.specs.Card.{Card}
 use Rattle.rules.specs.Units.{interval}
 use Rattle.rules.specs.Past.{Past, refreshStamps, countedStamps}
-use Rattle.rules.specs.Entries.{Entry, taken, pastOver, pastOf}
-use Rattle.rules.specs.Account.{Terms, lpddr3, ledgerAfter}
+use Rattle.rules.specs.Entries.{Entry, taken, pastWith, pastOver, pastOf}
+use Rattle.rules.specs.Account.{Terms, lpddr3, every, steady, Book, ledgerAfter, ledgerOn}
+use Rattle.rules.specs.Clock.{countedFrom, clock, beatOf, scheduleOf, bookOf, booksOf}
 use Rattle.rules.specs.Verdict.{accepted, judge}
-use Rattle.rules.specs.Reading.{AllPass, plainly, Above, NotBelow, WithinLimit, Paid, paidBelow, entryReads, endReads, readsAt, Accepts}
+use Rattle.rules.specs.Reading.{AllPass, plainly, Above, NotBelow, WithinLimit, Paid, EachPaid, paidBelow, entryReads, endReads, readsAt, Accepts}
 use Rattle.rules.specs.Stretch.{countIn}
 use Rattle.rules.proofs.Biased.{owed, ledger-biased, le-biased}
 use Rattle.rules.proofs.Counted.{counted-in}
 use Rattle.rules.proofs.Rounds.{AllBelow, Rising, below-more, each-bank}
+use Rattle.rules.proofs.Clocks.{N, N-clock, stretch, all-in, Orderly, start-orderly, orderly-over, refreshes-counted, Counting, counted-all, counting-over}
 use Rattle.rules.proofs.Exactly.{accepted-iff}
 
 -- ---- stamps rise
@@ -34,32 +39,35 @@ not-below-all (x ∷ past) t r h = (omega arith, below-more (x .stamp) (suc t) p
 rises : (card : Card) (past : Past) (es : List Entry) → ((i : ℕ) → i < length es → AllPass (readsAt card past es i)) → Rising past → Rising (pastOver card past es)
 unfolding pastOver
 rises card past [] h r = r
-rises card past (e ∷ es) h r = rises card (taken card past e ∷ past) es (λ i l. unfold readsAt pastOver in h (suc i) (omega arith)) next
+rises card past (e ∷ es) h r = rises card (pastWith card past e) es (λ i l. unfold readsAt pastOver in h (suc i) (omega arith)) next
   where
     first : Above past (e .stamp)
     first = unfold readsAt pastOver entryReads AllPass plainly in h 0 (omega arith) .0
 
-    next : Rising (taken card past e ∷ past)
-    next = unfold Rising taken in (above-all past (e .stamp) r first, r)
+    next : Rising (pastWith card past e)
+    next = unfold Rising pastWith taken in (above-all past (e .stamp) r first, r)
 
 -- ---- the limit, as the biased ledger
-pub within-limit : (k : Terms) (I : ℕ) (cs : List ℕ) (t : ℕ) → WithinLimit k I cs t → owed (k .credit) I cs (suc t) ≤ k .credit + k .limit
-unfolding WithinLimit ledgerAfter
-within-limit k I cs t h =
-    leb→le _ _ (subst T (le-biased (owed (k .credit) I cs (suc t)) (k .credit) (k .limit)) (subst (λ (z : ℤ). T (leZ z (pos (k .limit)))) (ledger-biased (k .credit) I cs (suc t)) (h .le)))
+pub within-limit : (k : Terms) (b : Book) (t : ℕ) → WithinLimit k b t → owed (k .credit) (b .schedule) (b .refreshes) (suc (b .clock t)) ≤ k .credit + k .limit
+unfolding WithinLimit ledgerOn ledgerAfter
+within-limit k b t h =
+    leb→le _ _ (subst T (le-biased (owed (k .credit) (b .schedule) (b .refreshes) (suc (b .clock t))) (k .credit) (k .limit))
+    (subst (λ (z : ℤ). T (leZ z (pos (k .limit)))) (ledger-biased (k .credit) (b .schedule) (b .refreshes) (suc (b .clock t))) (h .le)))
 
 -- ---- what an accepted trace has
 pub record Trace (card : Card) (past : Past) (end : ℕ) : Type 0 where
   pub rising : Rising past
+  pub orderly : Orderly card past
   pub ended : AllBelow (suc end) past
-  pub paid : (t : ℕ) → t < suc end → Paid lpddr3 (interval card) (countedStamps past) t
+  pub paid : (t : ℕ) → t < suc end → Paid lpddr3 (bookOf card past) t
 
-pub traced : (card : Card) (es : List Entry) (end m n : ℕ) (l : ℤ) → judge card es end ≡ accepted m n l → Trace card (pastOf card es) end
+pub traced : (card : Card) (es : List Entry) (end m n : ℕ) (l : List ℤ) → judge card es end ≡ accepted m n l → Trace card (pastOf card es) end
 unfolding pastOf
 traced card es end m n l e = record {
   rising = up;
+  orderly = orderly-over card [] es (start-orderly card);
   ended = not-below-all (pastOver card [] es) end up (unfold endReads AllPass plainly in a .ended .0);
-  paid = unfold endReads AllPass paidBelow in a .ended .1 .0;
+  paid = λ t l. unfold endReads AllPass paidBelow EachPaid booksOf Every in a .ended .1 .0 t l .0;
 }
   where
     a : Accepts card [] es end m n l
@@ -68,18 +76,39 @@ traced card es end m n l e = record {
     up : Rising (pastOver card [] es)
     up = rises card [] es (a .entries) (unfold Rising in tt)
 
-owed-through : (card : Card) (past : Past) (end : ℕ) → Trace card past end → (n : ℕ) → n ≤ end + 1 → owed 8 (interval card) (countedStamps past) n ≤ 16
-unfolding owed lpddr3
-owed-through card past end t zero h = omega arith
-owed-through card past end t (suc n) h = within-limit lpddr3 (interval card) (countedStamps past) n (t .paid n (omega arith) .limit)
+module _ (card : Card) (past : Past) (end : ℕ) (t : Trace card past end) where
+  owed-through : (n : ℕ) → n ≤ end + 1 → owed 8 (steady (every (interval card))) (map (clock past) (countedStamps past)) (N past n) ≤ 16
+  unfolding lpddr3 bookOf scheduleOf beatOf
+  owed-through zero h = unfold countedFrom owed in omega arith
+  owed-through (suc n) h = rw (N-clock past n) (within-limit lpddr3 (bookOf card past) n (t .paid n (omega arith) .limit))
 
--- every bank, in the L cycles from cycle a on
-pub refreshed : (card : Card) (es : List Entry) (end m n : ℕ) (l : ℤ) → judge card es end ≡ accepted m n l →
-    (b a L : ℕ) → b < 8 → a + L ≤ end + 1 → L / interval card - 17 ≤ countIn a (a + L) (refreshStamps b (pastOf card es))
-refreshed card es end m n l e b a L hb h =
+  -- the counted refreshes of a stretch of n cycles from cycle a on
+  counted-stretch : (a n : ℕ) → a + n ≤ end + 1 → countedFrom past a n / interval card ≤ countIn a (a + n) (countedStamps past) + 16
+  counted-stretch a n h =
+      let z : N past a + countedFrom past a n ≡ N past (a + n) = omega (arith, stretch past a n) in
+      let o = owed-through (a + n) h in
+      let c : countedFrom past a n / interval card ≤ countIn (N past a) (N past a + countedFrom past a n) (map (clock past) (countedStamps past)) + 16 =
+      counted-in 8 (interval card) (map (clock past) (countedStamps past)) 8 (N past a) (countedFrom past a n) (omega arith) (rw z o) in
+      let c′ : countedFrom past a n / interval card ≤ countIn (N past a) (N past (a + n)) (map (clock past) (countedStamps past)) + 16 = rw z at c in
+      omega (arith, c′, all-in past a (a + n) (countedStamps past) (refreshes-counted past (t .rising) (t .orderly .awakes)))
+
+-- every bank, in the n cycles from cycle a on, of which L are counted
+pub refreshed : (card : Card) (es : List Entry) (end m n : ℕ) (l : List ℤ) → judge card es end ≡ accepted m n l →
+    (b a n : ℕ) → b < 8 → a + n ≤ end + 1 →
+    countedFrom (pastOf card es) a n / interval card - 17 ≤ countIn a (a + n) (refreshStamps b (pastOf card es))
+refreshed card es end m n l e b a k hb h =
     let t = traced card es end m n l e in
     omega (
       arith,
-      each-bank a (a + L) b (pastOf card es) hb (t .rising),
-      counted-in 8 (interval card) (countedStamps (pastOf card es)) 8 a L (omega arith) (owed-through card (pastOf card es) end t (a + L) h),
+      each-bank a (a + k) b (pastOf card es) hb (t .rising),
+      counted-stretch card (pastOf card es) end t a k h,
     )
+
+-- where every cycle counts, as under a card without low clock-enable, L is the length of the stretch
+pub all-counted : (card : Card) (es : List Entry) → card .sleeps ≡ false → Counting (pastOf card es)
+unfolding pastOf
+all-counted card es h = counting-over card h [] es (start-orderly card) (unfold Counting in tt)
+
+pub refreshed-awake : (card : Card) (es : List Entry) (end m n : ℕ) (l : List ℤ) → judge card es end ≡ accepted m n l → Counting (pastOf card es) →
+    (b a L : ℕ) → b < 8 → a + L ≤ end + 1 → L / interval card - 17 ≤ countIn a (a + L) (refreshStamps b (pastOf card es))
+refreshed-awake card es end m n l e c b a L hb h = rw (counted-all (pastOf card es) c a L) at (refreshed card es end m n l e b a L hb h)

@@ -10,16 +10,18 @@ use lib.Dec.{leb, ltb}
 use lib.IntN.{ℤ, pos, negsuc, subℕ}
 use borrow.Author.Tests.{leb-true, le-leb, ltb-true}
 use Rattle.rules.specs.Card.{Card}
-use Rattle.rules.specs.Units.{interval}
 use Rattle.rules.specs.Registers.{mr2Good}
 use Rattle.rules.specs.Ranges.{cardGood}
 use Rattle.rules.specs.Folds.{firstOf}
-use Rattle.rules.specs.Account.{lpddr3, takeOne, idle, firstIdle, failing}
+use Rattle.rules.specs.Levels.{stopped}
+use Rattle.rules.specs.Account.{lpddr3, Beat, steady, takeOne, idle, firstIdle, failing}
+use Rattle.rules.specs.Clock.{beatOf}
 use Rattle.rules.specs.Entries.{Entry}
 use Rattle.rules.specs.Checks.{checks, valueGood}
 use Rattle.rules.specs.Delays.{means}
 use Rattle.rules.specs.Lent.{
   Ledger,
+  numberOf,
   History,
   Lent,
   allStored,
@@ -28,23 +30,30 @@ use Rattle.rules.specs.Lent.{
   notAbove,
   stampsGood,
   lastBy,
-  refreshedGood,
+  sinceGood,
+  shareGood,
   lentGood,
   aboveLast,
+  readIn,
   commandIn,
-  countedIn,
+  moveIn,
+  Effect,
+  effectIn,
+  countedTo,
   ledgerTo,
   refreshedAt,
+  atLevel,
   entered,
   ledgerWith,
   failingOf,
   failingTo,
   stepRefusal,
   historyAfter,
+  shareAfter,
   lentAfter,
   ledgerGood,
   moveRefusal,
-  moved,
+  movedOn,
   enterRefusal,
 }
 use Rattle.rules.proofs.Tests.{lt-cases, both-true}
@@ -52,64 +61,63 @@ use Rattle.rules.proofs.Biased.{take-biased, sub-below, sub-from, owing
 use Rattle.rules.proofs.Decided.{orElse-none, named-none, unless-none}
 use Rattle.rules.proofs.Idle.{idle-biased}
 use Rattle.rules.proofs.Closed.{owing-none}
-use Rattle.rules.proofs.Rounding.{interval-positive}
-use Rattle.rules.proofs.Taken.{counter-step, write-good, owing-biased}
+use Rattle.rules.proofs.Taken.{counter-step, recorded-good, write-good, owing-biased}
 use Rattle.rules.proofs.Stored.{stored-on, all-on, all-after}
-use Rattle.rules.proofs.Ledgers.{as-it-was}
+use Rattle.rules.proofs.Ledgers.{number-to}
 
 -- ---- the clauses of 13
 pub record Sound (l : Lent) : Type 0 where
   pub card : cardGood (l .card) ≡ true
-  pub mr2s : mr2sGood l ≡ true
-  pub owing : owingGood (l .ledger .owing) ≡ true
-  pub stamps : stampsGood l ≡ true
-  pub last : lastBy (l .last) (l .ledger .at) ≡ true
-  pub refreshed : refreshedGood (l .ledger) ≡ true
-  pub counter : leb (l .counter) 7 ≡ true
+  pub mr2s : mr2sGood (l .card) (l .share) ≡ true
+  pub owing : owingGood (l .share .ledger .owing) ≡ true
+  pub stamps : stampsGood (l .last) (l .share) ≡ true
+  pub last : lastBy (l .last) (l .share .ledger .at) ≡ true
+  pub since : sinceGood (l .share .ledger) ≡ true
+  pub counter : leb (l .share .counter) 7 ≡ true
 
 pub sound : (l : Lent) → lentGood l ≡ true → Sound l
-unfolding lentGood
+unfolding lentGood shareGood
 sound l e =
-    let (upto-refreshed, counter) = both-true _ _ e in
-    let (upto-last, refreshed) = both-true _ _ upto-refreshed in
+    let (card, share) = both-true _ _ e in
+    let (upto-since, counter) = both-true _ _ share in
+    let (upto-last, since) = both-true _ _ upto-since in
     let (upto-stamps, last) = both-true _ _ upto-last in
     let (upto-owing, stamps) = both-true _ _ upto-stamps in
-    let (upto-mr2s, owing) = both-true _ _ upto-owing in
-    let (card, mr2s) = both-true _ _ upto-mr2s in
+    let (mr2s, owing) = both-true _ _ upto-owing in
     record {
       card = card;
       mr2s = mr2s;
       owing = owing;
       stamps = stamps;
       last = last;
-      refreshed = refreshed;
+      since = since;
       counter = counter;
     }
 
 pub good-if : (l : Lent) → Sound l → lentGood l ≡ true
-unfolding lentGood
-good-if l s = rw (s .card, s .mr2s, s .owing, s .stamps, s .last, s .refreshed, s .counter)
+unfolding lentGood shareGood
+good-if l s = rw (s .card, s .mr2s, s .owing, s .stamps, s .last, s .since, s .counter)
 
 pub record SoundLedger (c : Card) (g : Ledger) : Type 0 where
   pub card : cardGood c ≡ true
   pub owing : owingGood (g .owing) ≡ true
-  pub refreshed : refreshedGood g ≡ true
+  pub since : sinceGood g ≡ true
 
 module _ (card : Card) (g : Ledger) where
   pub sound-ledger : ledgerGood card g ≡ true → SoundLedger card g
   unfolding ledgerGood
   sound-ledger e =
-      let (both, refreshed) = both-true _ _ e in
+      let (both, since) = both-true _ _ e in
       let (card, owing) = both-true _ _ both in
-      record { card = card; owing = owing; refreshed = refreshed }
+      record { card = card; owing = owing; since = since }
 
   pub ledger-good-if : SoundLedger card g → ledgerGood card g ≡ true
   unfolding ledgerGood
-  ledger-good-if s = rw (s .card, s .owing, s .refreshed)
+  ledger-good-if s = rw (s .card, s .owing, s .since)
 
 -- a record's ledger
-pub ledger-good : (l : Lent) → lentGood l ≡ true → ledgerGood (l .card) (l .ledger) ≡ true
-ledger-good l e = let s = sound l e in ledger-good-if (l .card) (l .ledger) (record { card = s .card; owing = s .owing; refreshed = s .refreshed })
+pub ledger-good : (l : Lent) → lentGood l ≡ true → ledgerGood (l .card) (l .share .ledger) ≡ true
+ledger-good l e = let s = sound l e in ledger-good-if (l .card) (l .share .ledger) (record { card = s .card; owing = s .owing; since = s .since })
 
 -- ---- the ledger
 -- not below minus the credit
@@ -123,63 +131,89 @@ biased (negsuc n) e =
     let h : n ≤ 7 = leb-true n 7 (both-true _ _ e .0) in
     (7 - n, let z : n ≡ 8 - suc (7 - n) = omega arith in sym (sub-below (7 - n) 8 (omega arith) ∙ ap negsuc (sym z)))
 
-within : (I : ℕ) (z : ℤ) (last t : ℕ) → Biased z → failing lpddr3 I z last t ≡ none → owingGood z ≡ true
+within : (b : Beat) (z : ℤ) (last n t : ℕ) → Biased z → failing lpddr3 (steady b) z last n t ≡ none → owingGood z ≡ true
 unfolding lpddr3
-within I z last t (o, b) n =
-    let f : owing lpddr3 I o last t ≡ none = sym (failing-biased lpddr3 I o last t) ∙ (rw b at n) in
-    rw (b, owing-biased o) (le-leb o 16 (owing-none lpddr3 I o last t f .0))
+within b z last n t (o, e) h =
+    let f : owing lpddr3 (steady b) o last n t ≡ none = sym (failing-biased lpddr3 (steady b) o last n t) ∙ (rw e at h) in
+    rw (e, owing-biased o) (le-leb o 16 (owing-none lpddr3 (steady b) o last n t f .0))
 
-module _ (I : ℕ) (positive : 0 < I) (g : Ledger) where
-  biased-to : (t : ℕ) → Biased (g .owing) → Biased (ledgerTo I g t .owing)
-  unfolding ledgerTo
-  biased-to t (o, b) =
-      (_, ap (λ (z : ℤ). idle (lpddr3 .credit) I z (g .at) (t - g .at)) b ∙ idle-biased I positive (lpddr3 .credit) o (g .at) (t - g .at))
+biased-to : (b : Beat) (g : Ledger) (t : ℕ) → Biased (g .owing) → Biased (ledgerTo b g t .owing)
+unfolding ledgerTo
+biased-to b g t (o, e) =
+    (_, ap (λ (z : ℤ). idle (lpddr3 .credit) (steady b) z (numberOf g) (countedTo g t)) e ∙ idle-biased (steady b) (lpddr3 .credit) o (numberOf g) (countedTo g t))
 
 biased-refreshed : (counted : Bool) (g : Ledger) → Biased (g .owing) → Biased (refreshedAt counted g .owing)
 unfolding refreshedAt
 biased-refreshed true g (o, b) = (o - 1, ap (takeOne (lpddr3 .credit)) b ∙ take-biased (lpddr3 .credit) o)
 biased-refreshed false g b = b
 
-refreshed-by : (counted : Bool) (I : ℕ) (g : Ledger) (t : ℕ) → g .refreshed ≤ t → refreshedGood (refreshedAt counted (ledgerTo I g t)) ≡ true
-unfolding refreshedGood refreshedAt ledgerTo
-refreshed-by true I g t h = le-leb t t (omega arith)
-refreshed-by false I g t h = le-leb (g .refreshed) t h
+-- the gap counts from no later than where the ledger stands
+since-to : (b : Beat) (g : Ledger) (t : ℕ) → g .at ≤ t → g .since ≤ numberOf g → ledgerTo b g t .since ≤ numberOf (ledgerTo b g t)
+since-to b g t h s = rw (number-to b g t h) (unfold ledgerTo in omega arith)
+
+since-refreshed : (counted : Bool) (g : Ledger) → g .since ≤ numberOf g → sinceGood (refreshedAt counted g) ≡ true
+unfolding sinceGood refreshedAt numberOf
+since-refreshed true g h = le-leb (g .at - g .skipped) (g .at - g .skipped) (omega arith)
+since-refreshed false g h = le-leb _ _ h
+
+-- where it stands nothing is added
+owing-here : (b : Beat) (g : Ledger) → ledgerTo b g (g .at) .owing ≡ g .owing
+unfolding ledgerTo countedTo
+owing-here b g = go (stopped (g .level))
+  where
+    go : (x : Bool) → idle (lpddr3 .credit) (steady b) (g .owing) (numberOf g) (cond x 0 (g .at - g .at)) ≡ g .owing
+    go true = unfold idle in refl
+    go false = let z : g .at - g .at ≡ 0 = omega arith in rw z (unfold idle in refl)
 
 module _ (card : Card) (g : Ledger) where
-  -- taken to cycle t and, if one is counted there, through a refresh
-  pub entered-good : (counted : Bool) (t : ℕ) → ledgerGood card g ≡ true → g .at ≤ t → failingOf (interval card) (entered counted card g t) ≡ none →
-      ledgerGood card (entered counted card g t) ≡ true
-  unfolding entered failingOf
-  entered-good counted t good h n =
+  -- taken through an entry's cycle
+  pub entered-good : (x : Effect) (t : ℕ) → ledgerGood card g ≡ true → g .at ≤ t → failingOf (beatOf card) (entered x (beatOf card) g t) ≡ none →
+      ledgerGood card (entered x (beatOf card) g t) ≡ true
+  unfolding entered failingOf atLevel
+  entered-good x t good h n =
       let s = sound-ledger card g good in
-      let positive = interval-positive card (s .card) in
-      let r : g .refreshed ≤ g .at = unfold refreshedGood in leb-true (g .refreshed) (g .at) (s .refreshed) in
-      let to = ledgerTo (interval card) g t in
-      ledger-good-if card (refreshedAt counted to) (record {
+      let to = ledgerTo (beatOf card) g t in
+      let since : g .since ≤ numberOf g = unfold sinceGood in leb-true (g .since) (numberOf g) (s .since) in
+      ledger-good-if card (atLevel (x .level) (refreshedAt (x .counted) to)) (record {
         card = s .card;
-        owing = within _ _ _ _ (biased-refreshed counted to (biased-to (interval card) positive g t (biased (g .owing) (s .owing)))) n;
-        refreshed = refreshed-by counted (interval card) g t (omega arith);
+        owing = within _ _ _ _ _ (biased-refreshed (x .counted) to (biased-to (beatOf card) g t (biased (g .owing) (s .owing)))) n;
+        since = unfold sinceGood numberOf in since-refreshed (x .counted) to (since-to (beatOf card) g t h since);
       })
 
-  pub enter-good : (counted : Bool) (t : ℕ) → enterRefusal counted card g t ≡ none → ledgerGood card (entered counted card g t) ≡ true
+  pub enter-good : (x : Effect) (t : ℕ) → enterRefusal x card g t ≡ none → ledgerGood card (entered x (beatOf card) g t) ≡ true
   unfolding enterRefusal firstOf
-  enter-good counted t n =
+  enter-good x t n =
       let (good, n₁) = orElse-none _ _ n in
       let (from, n₂) = orElse-none _ _ n₁ in
       let (below, n₃) = orElse-none _ _ n₂ in
       let (here, n₄) = orElse-none _ _ n₃ in
-      entered-good counted t (unless-none _ 13 good) (leb-true (g .at) t (unless-none _ 5 from)) (named-none 11 _ here)
+      entered-good x t (unless-none _ 13 good) (leb-true (g .at) t (unless-none _ 5 from)) (named-none 11 _ here)
 
-  -- of the cycles that a ledger is moved on over, the last does not fail
-  fine-there : (c : ℕ) → g .at < c → failingTo (interval card) g (suc c) ≡ none → failingOf (interval card) (moved card g c) ≡ none
-  unfolding failingTo failingOf moved ledgerTo firstIdle
-  fine-there c h n =
-      let j : suc c - suc (g .at) ≡ suc (c - suc (g .at)) = omega arith in
-      let k : c - g .at ≡ suc (c - suc (g .at)) = omega arith in
-      let e : g .at + suc (c - suc (g .at)) ≡ c = omega arith in
-      rw k (rw e at (orElse-none _ _ (rw j at n) .1))
+  -- of the cycles that a ledger is moved on over, the last does not take it out of its range
+  owing-there : (c : ℕ) → SoundLedger card g → g .at < c → failingTo (beatOf card) g (suc c) ≡ none → owingGood (movedOn card g c .owing) ≡ true
+  unfolding failingTo movedOn ledgerTo countedTo
+  owing-there c s h = go (stopped (g .level))
+    where
+      b : Beat
+      b = beatOf card
 
-  pub moved-good : (c : ℕ) → moveRefusal card g c ≡ none → ledgerGood card (moved card g c) ≡ true
+      j : suc c - suc (g .at) ≡ suc (c - suc (g .at))
+      j = omega arith
+
+      k : c - g .at ≡ suc (c - suc (g .at))
+      k = omega arith
+
+      go : (x : Bool) → cond x none (firstIdle lpddr3 (steady b) (g .owing) (g .since) (numberOf g) (g .at) (suc c - suc (g .at))) ≡ none →
+          owingGood (idle (lpddr3 .credit) (steady b) (g .owing) (numberOf g) (cond x 0 (c - g .at))) ≡ true
+      go true n = unfold idle in s .owing
+      go false n =
+          let (o, e) = biased (g .owing) (s .owing) in
+          let i = c - suc (g .at) in
+          let m : failing lpddr3 (steady b) (idle (lpddr3 .credit) (steady b) (g .owing) (numberOf g) (suc i)) (g .since) (numberOf g + suc i) (g .at + suc i) ≡ none =
+          unfold firstIdle in orElse-none _ _ (rw j at n) .1 in
+          rw k (within b _ _ _ _ (_, ap (λ (z : ℤ). idle (lpddr3 .credit) (steady b) z (numberOf g) (suc (c - suc (g .at)))) e ∙ idle-biased (steady b) (lpddr3 .credit) o (numberOf g) (suc (c - suc (g .at)))) m)
+
+  pub moved-good : (c : ℕ) → moveRefusal card g c ≡ none → ledgerGood card (movedOn card g c) ≡ true
   unfolding moveRefusal firstOf
   moved-good c n =
       let (first, n₁) = orElse-none _ _ n in
@@ -187,22 +221,29 @@ module _ (card : Card) (g : Ledger) where
       let (below, n₃) = orElse-none _ _ n₂ in
       go (unless-none _ 13 first) (leb-true (g .at) c (unless-none _ 5 from)) (named-none 11 _ below)
     where
-      go : ledgerGood card g ≡ true → g .at ≤ c → failingTo (interval card) g (suc c) ≡ none → ledgerGood card (moved card g c) ≡ true
-      go good h f = ⊎-elim
-          (λ (p : (g .at < c) × (ltb (g .at) c ≡ true)). unfold moved entered refreshedAt in entered-good false c good h (fine-there c (p .0) f))
-          (λ (p : (c ≤ g .at) × (ltb (g .at) c ≡ false)).
-          let e : c ≡ g .at = omega (arith, p .0) in
-          rw e (unfold moved in rw (as-it-was (interval card) g) good))
-          (lt-cases (g .at) c)
+      go : ledgerGood card g ≡ true → g .at ≤ c → failingTo (beatOf card) g (suc c) ≡ none → ledgerGood card (movedOn card g c) ≡ true
+      go good h f = ledger-good-if card (movedOn card g c) (record {
+        card = s .card;
+        owing = ⊎-elim
+            (λ (p : (g .at < c) × (ltb (g .at) c ≡ true)). owing-there c s (p .0) f)
+            (λ (p : (c ≤ g .at) × (ltb (g .at) c ≡ false)).
+            let e : c ≡ g .at = omega (arith, p .0) in
+            rw e (unfold movedOn in rw (owing-here (beatOf card) g) (s .owing)))
+            (lt-cases (g .at) c);
+        since = unfold sinceGood movedOn in le-leb _ _ (since-to (beatOf card) g c h (unfold sinceGood in leb-true _ _ (s .since)));
+      })
+        where
+          s : SoundLedger card g
+          s = sound-ledger card g good
 
 -- ---- a step
 -- what an entry that was taken has
 pub record StepPassed (l : Lent) (e : Entry) : Type 0 where
   pub good : lentGood l ≡ true
   pub above : aboveLast (l .last) (e .stamp) ≡ true
-  pub from : l .ledger .at ≤ e .stamp
+  pub from : l .share .ledger .at ≤ e .stamp
   pub value : valueGood (l .card) (commandIn l e) ≡ true
-  pub paid : failingOf (interval (l .card)) (ledgerWith l e) ≡ none
+  pub paid : failingOf (beatOf (l .card)) (ledgerWith l e) ≡ none
 
 module _ (l : Lent) (e : Entry) (n : stepRefusal l e ≡ none) where
   pub step-passed : StepPassed l e
@@ -214,15 +255,16 @@ module _ (l : Lent) (e : Entry) (n : stepRefusal l e ≡ none) where
       let (wrong, n₄) = orElse-none _ _ n₃ in
       let (reserved, n₅) = orElse-none _ _ n₄ in
       let (state, n₆) = orElse-none _ _ n₅ in
-      let (value, n₇) = orElse-none _ _ n₆ in
-      let (delays, n₈) = orElse-none _ _ n₇ in
-      let (at, n₉) = orElse-none _ _ n₈ in
+      let (permitted, n₇) = orElse-none _ _ n₆ in
+      let (value, n₈) = orElse-none _ _ n₇ in
+      let (delays, n₉) = orElse-none _ _ n₈ in
+      let (at, n₁₀) = orElse-none _ _ n₉ in
       let (above, from) = both-true _ _ (unless-none _ 5 rises) in
       record {
         good = unless-none _ 13 good;
         above = above;
-        from = leb-true (l .ledger .at) (e .stamp) from;
-        value = unless-none _ 9 value;
+        from = leb-true (l .share .ledger .at) (e .stamp) from;
+        value = recorded-good (l .card) (readIn l e) (unless-none _ 9 value);
         paid = named-none 11 _ at;
       }
 
@@ -241,46 +283,46 @@ module _ (l : Lent) (e : Entry) (n : stepRefusal l e ≡ none) where
           le-leb s (e .stamp) (omega arith)
 
   abbrev after : History
-  after = historyAfter (commandIn l e) (l .counter) (e .stamp) (l .mr2) (l .history)
+  after = historyAfter (commandIn l e) (moveIn l e) (l .share .counter) (e .stamp) (l .share .mr2) (l .share .history)
 
   stamps-kept : allStored (λ a f. notAbove (some (e .stamp)) (f .stamp)) after ≡ true
   unfolding notAbove
-  stamps-kept = stored-on (λ a f. notAbove (l .last) (f .stamp)) _ (l .history) after
-      (λ q h. all-after _ (commandIn l e) _ _ _ (l .history) q (le-leb (e .stamp) (e .stamp) (omega arith)) (all-on _ _ (λ f. before-it (f .stamp)) (l .history q) h))
+  stamps-kept = stored-on (λ a f. notAbove (l .last) (f .stamp)) _ (l .share .history) after
+      (λ q h. all-after _ (commandIn l e) (moveIn l e) _ _ _ (l .share .history) q (le-leb (e .stamp) (e .stamp) (omega arith)) (all-on _ _ (λ f. before-it (f .stamp)) (l .share .history q) h))
       (unfold stampsGood in was .stamps)
 
   abbrev fits : ℕ → Bool
   fits = mr2Good (l .card .period)
 
-  mr2s-were : (fits (l .mr2) ≡ true) × (allStored (λ a f. cond (means a .lags) (fits (f .noted)) true) (l .history) ≡ true)
+  mr2s-were : (fits (l .share .mr2) ≡ true) × (allStored (λ a f. cond (means a .lags) (fits (f .noted)) true) (l .share .history) ≡ true)
   mr2s-were = both-true _ _ (unfold mr2sGood in was .mr2s)
 
   notes-kept : allStored (λ a f. cond (means a .lags) (fits (f .noted)) true) after ≡ true
-  notes-kept = stored-on (λ a f. cond (means a .lags) (fits (f .noted)) true) _ (l .history) after
-      (λ q h. all-after _ (commandIn l e) _ _ _ (l .history) q (go (means (q .ask) .lags)) h) (mr2s-were .1)
+  notes-kept = stored-on (λ a f. cond (means a .lags) (fits (f .noted)) true) _ (l .share .history) after
+      (λ q h. all-after _ (commandIn l e) (moveIn l e) _ _ _ (l .share .history) q (go (means (q .ask) .lags)) h) (mr2s-were .1)
     where
-      go : (x : Bool) → cond x (fits (cond x (l .mr2) 0)) true ≡ true
+      go : (x : Bool) → cond x (fits (cond x (l .share .mr2) 0)) true ≡ true
       go true = mr2s-were .0
       go false = refl
 
   pub ledger-kept : ledgerGood (l .card) (ledgerWith l e) ≡ true
   unfolding ledgerWith
-  ledger-kept = entered-good (l .card) (l .ledger) (countedIn l e) (e .stamp) (ledger-good l (step-passed .good)) (step-passed .from) (step-passed .paid)
+  ledger-kept = entered-good (l .card) (l .share .ledger) (effectIn l e) (e .stamp) (ledger-good l (step-passed .good)) (step-passed .from) (step-passed .paid)
 
   pub good-kept : lentGood (lentAfter l e) ≡ true
-  unfolding lentAfter
+  unfolding lentAfter shareAfter
   good-kept =
       let g = sound-ledger (l .card) (ledgerWith l e) ledger-kept in
       good-if (lentAfter l e) (record {
         card = g .card;
-        mr2s = unfold mr2sGood in rw (write-good (l .card) (commandIn l e) (l .mr2) (step-passed .value) (mr2s-were .0), notes-kept);
+        mr2s = unfold mr2sGood in rw (write-good (l .card) (commandIn l e) (l .share .mr2) (step-passed .value) (mr2s-were .0), notes-kept);
         owing = g .owing;
         stamps = unfold stampsGood in stamps-kept;
-        last = unfold lastBy ledgerWith entered in at-it (countedIn l e);
-        refreshed = g .refreshed;
-        counter = le-leb _ 7 (counter-step (commandIn l e) (l .counter) (leb-true (l .counter) 7 (was .counter)));
+        last = unfold lastBy ledgerWith entered atLevel in at-it (effectIn l e .counted);
+        since = g .since;
+        counter = le-leb _ 7 (counter-step (commandIn l e) (moveIn l e) (l .share .counter) (leb-true (l .share .counter) 7 (was .counter)));
       })
     where
-      at-it : (x : Bool) → leb (e .stamp) (refreshedAt x (ledgerTo (interval (l .card)) (l .ledger) (e .stamp)) .at) ≡ true
+      at-it : (x : Bool) → leb (e .stamp) (refreshedAt x (ledgerTo (beatOf (l .card)) (l .share .ledger) (e .stamp)) .at) ≡ true
       at-it true = unfold refreshedAt ledgerTo in le-leb (e .stamp) (e .stamp) (omega arith)
       at-it false = unfold refreshedAt ledgerTo in le-leb (e .stamp) (e .stamp) (omega arith)

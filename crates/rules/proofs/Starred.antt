@@ -28,11 +28,13 @@ use Rattle.rules.specs.Pins.{
   encode,
 }
 use Rattle.rules.specs.Registers.{row, latencies, atCode, mr2Good, rlOf, wlOf, mr1Good, mayWrite}
-use Rattle.rules.specs.Entries.{viewOf, read, commandOf, taken}
+use Rattle.rules.specs.Levels.{depth, sameLevel, stopped, isFall, isRise, risesFrom, levelAfter, fallBy, fall, rise, readAt, readPins}
+use Rattle.rules.specs.Entries.{viewOf, read, readAfter, commandOf, recordedAs, moveOf, fallsAs, movesAs, judgedAs, taken, pastWith}
 use Rattle.rules.specs.Past.{
   registerAfter,
   register,
   mr2At,
+  levelAt,
   counterAfter,
   counterAt,
   bankAt,
@@ -53,6 +55,7 @@ use Rattle.rules.specs.Delays.{
   laggingOf,
   fourthOf,
   latestIf,
+  latestMove,
   to,
   means,
   found,
@@ -65,16 +68,23 @@ use Rattle.rules.specs.Delays.{
   rule,
   delayRules,
 }
-use Rattle.rules.specs.Account.{lpddr3, isDue, lastCounted}
-use Rattle.rules.specs.Checks.{refusal, unless, named, isWrong, isReserved, valueGood, checks, above, notBelow}
-use Rattle.rules.specs.Ranges.{within, periodGood, groupsGood, trefiGood, timingGood, timings}
+use Rattle.rules.specs.Account.{lpddr3, every, fallen, nextAfter, takeOne, failing}
+use Rattle.rules.specs.Clock.{beatOf}
+use Rattle.rules.specs.Checks.{refusal, unless, named, isWrong, isReserved, isBarred, valueGood, checks, above, notBelow}
+use Rattle.rules.specs.Ranges.{within, periodGood, groupsGood, trefiGood, timingGood, timings, sleepTimings}
 use Rattle.rules.specs.Form.{
   bytesOf,
   sizeOf,
   numberFrom,
   number,
-  nextTag,
+  _upTo_,
+  groups,
+  lastTag,
+  endsGroup,
+  beginsGroup,
   cardWhole,
+  ofTrace,
+  mayFollow,
   mayCome,
   _of_,
   lengths,
@@ -85,6 +95,7 @@ use Rattle.rules.specs.Form.{
   headOf,
   timingOf,
   valueOf,
+  has,
   numberAt,
   timingAt,
   cardOf,
@@ -92,13 +103,18 @@ use Rattle.rules.specs.Form.{
   entryOf,
   endOf,
 }
-use Rattle.rules.specs.File.{Judged, orRefused, cardStep, closing, judgeFile}
+use Rattle.rules.specs.Verdict.{refreshCount}
+use Rattle.rules.specs.File.{Judged, begun, orRefused, cardStep, closing, judgeFile}
 use Rattle.rules.specs.Writer.{bigEndian, fieldBytes, entryBytes}
-use Rattle.rules.specs.Lines.{digits, decimal, signed, nameOf, showsBank, entryLine, entryLines, verdictLine, linesOf}
+use Rattle.rules.specs.Lines.{digits, decimal, signed, nameOf, showsBank, entryLine, entryLines, ledgerParts, verdictLine, linesOf}
+use Rattle.rules.specs.Lent.{numberOf, effectOf, countedTo, refreshedAt, atLevel, failingOf, fresh}
 use Rattle.rules.specs.Bench.{
   timing,
+  onlyIf,
+  benchWith,
   benchAt,
   bench,
+  sleeper,
   timingFields,
   cardFile,
   entriesFile,
@@ -110,21 +126,26 @@ use Rattle.rules.specs.Bench.{
   measures,
   writes,
   Shown,
+  accepts,
   _at_,
   eightRefreshes,
   fourActs,
   starred,
   further,
+  _low_,
+  sevenRefreshes,
+  sleeping,
 }
 use Rattle.rules.proofs.Tests.{_&_}
-use Rattle.rules.proofs.Biased.{due, owing}
-use Rattle.rules.proofs.Idle.{owedAt, next19, next20, firstNext}
-use Rattle.rules.proofs.Closed.{owedClosed, firstClosed}
-use Rattle.rules.proofs.Computed.{entryComputed, endComputed, owingComputed, entryStepComputed, endStepComputed, byHeadComputed, computedFrom, computed, computed-judged}
+use Rattle.rules.proofs.Idle.{owedAt, next19, next20, after20, firstNext}
+use Rattle.rules.proofs.Clocked.{relabel}
+use Rattle.rules.proofs.Closed.{biased, ledgerClosed, failingClosed}
+use Rattle.rules.proofs.Walks.{headBy, entryBy, endBy, byHeadBy, stepBy, fileBy, judgedBy}
+use Rattle.rules.proofs.Computed.{ledgerThen, ledgerOver, entryFrom, endFrom, computing, computed, computed-judged}
 
 -- names every definition that a case computes with
 unfoldable pub opened : Unit {0}
-unfolding Every all isOneOf when bits on bit roundedUp n interval rowCycle delaysOf code bare carries kindOf bankOf apOf is banks CAr CAf byLevels kindAt run maRuns opRuns bankRuns rowRuns columnRuns gathered scattered listedMA ofKind decode levels enabled encode row latencies atCode mr2Good rlOf wlOf mr1Good mayWrite read commandOf taken registerAfter register mr2At counterAfter counterAt bankAt opens precharges closes openAfter isOpen isCounted stampsWhere countedStamps commandCount allClosed goes stateGood orElse firstOf latest back permitted permittedBy bound firstBroken latestOf laggingOf fourthOf latestIf to means found find idleUse precharged without from lagging rule delayRules lpddr3 isDue lastCounted refusal unless named isWrong isReserved valueGood viewOf checks above notBelow within periodGood groupsGood trefiGood timingGood timings bytesOf sizeOf numberFrom number nextTag cardWhole mayCome _of_ lengths isListed lengthGood valued sized headOf timingOf valueOf numberAt timingAt cardOf fieldGood entryOf endOf orRefused cardStep closing bigEndian fieldBytes entryBytes digits decimal signed nameOf showsBank entryLine entryLines verdictLine timing benchAt bench timingFields cardFile entriesFile endFile file _at_ eightRefreshes fourActs starred further due owing owedAt next19 next20 firstNext owedClosed firstClosed entryComputed endComputed owingComputed entryStepComputed endStepComputed byHeadComputed computedFrom computed
+unfolding Every all isOneOf when bits on bit roundedUp n interval rowCycle delaysOf code bare carries kindOf bankOf apOf is banks CAr CAf byLevels kindAt run maRuns opRuns bankRuns rowRuns columnRuns gathered scattered listedMA ofKind decode levels enabled encode row latencies atCode mr2Good rlOf wlOf mr1Good mayWrite depth sameLevel stopped isFall isRise risesFrom levelAfter fallBy fall rise readAt readPins read readAfter commandOf recordedAs moveOf fallsAs movesAs judgedAs taken pastWith levelAt registerAfter register mr2At counterAfter counterAt bankAt opens precharges closes openAfter isOpen isCounted stampsWhere countedStamps commandCount allClosed goes stateGood orElse firstOf latest back permitted permittedBy bound firstBroken latestOf laggingOf fourthOf latestIf latestMove to means found find idleUse precharged without from lagging rule delayRules lpddr3 every fallen nextAfter takeOne failing beatOf refusal unless named isWrong isReserved isBarred valueGood viewOf checks above notBelow within periodGood groupsGood trefiGood timingGood timings sleepTimings bytesOf sizeOf numberFrom number _upTo_ groups lastTag endsGroup beginsGroup cardWhole ofTrace mayFollow mayCome _of_ lengths isListed lengthGood valued sized headOf timingOf valueOf has numberAt timingAt cardOf fieldGood entryOf endOf refreshCount begun orRefused cardStep closing bigEndian fieldBytes entryBytes digits decimal signed nameOf showsBank entryLine entryLines ledgerParts verdictLine numberOf effectOf countedTo refreshedAt atLevel failingOf fresh accepts timing onlyIf benchWith benchAt bench sleeper timingFields cardFile entriesFile endFile file _at_ eightRefreshes fourActs starred further _low_ sevenRefreshes sleeping owedAt next19 next20 after20 firstNext relabel biased ledgerClosed failingClosed headBy entryBy endBy byHeadBy stepBy fileBy judgedBy ledgerThen ledgerOver entryFrom endFrom computing computed
 opened = tt
 
 -- a case whose verdict is computed with the account in closed form
@@ -156,8 +177,18 @@ further-computes : Every Computes further
 unfolding opened Computes
 further-computes = refl & refl & refl & refl & refl & refl & refl & refl & refl & refl & refl & refl & tt
 
+sleeping-computes : Every Computes sleeping
+unfolding opened Computes
+sleeping-computes =
+    refl & refl & refl & refl & refl & refl & refl & refl & refl & refl & refl & refl & refl & refl & refl & refl & refl & refl & refl & refl &
+    refl & refl & refl & refl & refl & refl & refl & refl & refl & refl & refl & refl & refl & refl & refl & refl & refl & refl & refl & refl &
+    refl & refl & tt
+
 pub starred-hold : Every Shown starred
 starred-hold = all-shown starred starred-computes
 
 pub further-hold : Every Shown further
 further-hold = all-shown further further-computes
+
+pub sleeping-hold : Every Shown sleeping
+sleeping-hold = all-shown sleeping sleeping-computes

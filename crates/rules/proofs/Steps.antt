@@ -10,14 +10,14 @@ use lib.ListN.{length}
 use Rattle.rules.specs.Card.{Card}
 use Rattle.rules.specs.Ranges.{cardGood}
 use Rattle.rules.specs.Past.{Past}
-use Rattle.rules.specs.Entries.{Entry, taken, pastOver, pastOf}
+use Rattle.rules.specs.Entries.{Entry, pastWith, pastOver, pastOf}
 use Rattle.rules.specs.Checks.{Refusal, entryRefusal}
 use Rattle.rules.specs.Reading.{AllPass, Above, readsAt}
-use Rattle.rules.specs.Lent.{Lent, stepRefusal, lentAfter, lastCycle, standingLedger, standing, fresh, AllTaken, PaidTo}
+use Rattle.rules.specs.Lent.{Lent, stepRefusal, lentAfter, lastCycle, standsAt, standing, fresh, AllTaken, PaidTo}
 use Rattle.rules.proofs.Tests.{some-none}
 use Rattle.rules.proofs.Exactly.{entry-decides}
 use Rattle.rules.proofs.Taken.{passed, paid-to-last}
-use Rattle.rules.proofs.StepByList.{standsAt, fresh-stands, step-by-list, step-accepts, step-after, step-keeps}
+use Rattle.rules.proofs.StepByList.{fresh-stands, step-by-list, step-accepts, step-after, step-keeps}
 
 -- each entry in turn; none at the first refusal
 unfoldable pub runSteps : Lent → List Entry → Option Lent
@@ -38,11 +38,11 @@ run-passed l e es n = rw (n, runSteps)
 
 module _ (card : Card) where
   entries-cons : (past : Past) (e : Entry) (es : List Entry) →
-      AllEntries card past (e ∷ es) ↔ ((entryRefusal card past e ≡ none) × AllEntries card (taken card past e ∷ past) es)
+      AllEntries card past (e ∷ es) ↔ ((entryRefusal card past e ≡ none) × AllEntries card (pastWith card past e) es)
   unfolding readsAt pastOver
   entries-cons past e es = (λ h. (entry-decides card past e .passing .1 (h 0 (omega arith)), λ i l. h (suc i) (omega arith)), back)
     where
-      back : (entryRefusal card past e ≡ none) × AllEntries card (taken card past e ∷ past) es → AllEntries card past (e ∷ es)
+      back : (entryRefusal card past e ≡ none) × AllEntries card (pastWith card past e) es → AllEntries card past (e ∷ es)
       back h zero l = entry-decides card past e .passing .0 (h .0)
       back h (suc i) l = h .1 i (omega arith)
 
@@ -52,10 +52,10 @@ module _ (card : Card) where
   entries-taken past all [] h = all
   entries-taken past all (e ∷ es) h =
       let p = entries-cons past e es .0 h in
-      entries-taken (taken card past e ∷ past) (unfold AllTaken in ((e, refl, p .0), all)) es (p .1)
+      entries-taken (pastWith card past e) (unfold AllTaken pastWith in ((e, refl, p .0), all)) es (p .1)
 
-  at-last : (past : Past) (t : ℕ) → Above past t → standsAt card past 0 ≤ t
-  unfolding Above standingLedger lastCycle
+  at-last : (past : Past) (t : ℕ) → Above past t → standsAt past 0 ≤ t
+  unfolding Above standsAt lastCycle
   at-last [] t h = omega arith
   at-last (e ∷ p) t h = omega arith
 
@@ -67,13 +67,13 @@ module _ (card : Card) where
       where
         nowhere : {i : ℕ} → i < 0 → ⊥
         nowhere q = omega arith
-    runs past all (e ∷ es) l = go (stepRefusal (standing card past 0) e) refl (λ a. runs (taken card past e ∷ past) a es l)
+    runs past all (e ∷ es) l = go (stepRefusal (standing card past 0) e) refl (λ a. runs (pastWith card past e) a es l)
       where
         paid : PaidTo card past 0
-        paid = paid-to-last card good past all
+        paid = paid-to-last card past all
 
         next : Past
-        next = taken card past e ∷ past
+        next = pastWith card past e
 
         go : (o : Option Refusal) → stepRefusal (standing card past 0) e ≡ o →
             (AllTaken card next → (runSteps (standing card next 0) es ≡ some l) ↔ (AllEntries card next es × (l ≡ standing card (pastOver card next es) 0))) →

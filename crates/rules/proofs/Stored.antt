@@ -11,6 +11,7 @@ use borrow.Author.Tests.{le-leb}
 use Rattle.rules.specs.Lists.{all}
 use Rattle.rules.specs.Card.{Card}
 use Rattle.rules.specs.Commands.{Command, banks}
+use Rattle.rules.specs.Levels.{Move}
 use Rattle.rules.specs.Registers.{mr2Good}
 use Rattle.rules.specs.Ranges.{cardGood}
 use Rattle.rules.specs.Past.{Past, mr2At}
@@ -33,6 +34,9 @@ use Rattle.rules.specs.Delays.{
   lastRDA-to,
   lastWR-to,
   lastWRA-to,
+  lastFall,
+  lastPowerExit,
+  lastSelfExit,
   Question,
   Meaning,
   means,
@@ -83,6 +87,9 @@ asks-all lastRD-to = (12, refl)
 asks-all lastRDA-to = (13, refl)
 asks-all lastWR-to = (14, refl)
 asks-all lastWRA-to = (15, refl)
+asks-all lastFall = (16, refl)
+asks-all lastPowerExit = (17, refl)
+asks-all lastSelfExit = (18, refl)
 
 pub stored-of : (p : Ask → Found ℕ → Bool) (h : History) → ((q : Question) → all (p (q .ask)) (h q) ≡ true) → allStored p h ≡ true
 unfolding allStored
@@ -103,10 +110,10 @@ module _ (p : Found ℕ → Bool) where
       go true = all-cons p f (take (m .passed) h) pf (all-take p (m .passed) h ph)
       go false = unfold all in refl
 
-  pub all-after : (c : Command) (n t mr2 : ℕ) (h : History) (q : Question) → p (record { stamp = t; noted = cond (means (q .ask) .lags) mr2 0 }) ≡ true →
-      all p (h q) ≡ true → all p (historyAfter c n t mr2 h q) ≡ true
+  pub all-after : (c : Command) (v : Move) (n t mr2 : ℕ) (h : History) (q : Question) → p (record { stamp = t; noted = cond (means (q .ask) .lags) mr2 0 }) ≡ true →
+      all p (h q) ≡ true → all p (historyAfter c v n t mr2 h q) ≡ true
   unfolding historyAfter
-  all-after c n t mr2 h q pf ph = go (means (q .ask) .among (q .bank) c n)
+  all-after c v n t mr2 h q pf ph = go (means (q .ask) .among (q .bank) c v n)
     where
       go : (x : Bool) →
           all p (cond x (remembered (means (q .ask)) c (record { stamp = t; noted = cond (means (q .ask) .lags) mr2 0 }) (h q)) (h q)) ≡ true
@@ -117,7 +124,7 @@ module _ (card : Card) where
   pub not-above : (s : ℕ) (past : Past) → AllBelow (suc s) past → (q : Question) → all (λ f. leb (f .stamp) s) (historyOf card past q) ≡ true
   unfolding historyOf AllBelow
   not-above s [] b q = unfold all in refl
-  not-above s (e ∷ t) b q = all-after (λ f. leb (f .stamp) s) (e .cmd) _ _ _ (historyOf card t) q (le-leb (e .stamp) s (omega arith)) (not-above s t (b .1) q)
+  not-above s (e ∷ t) b q = all-after (λ f. leb (f .stamp) s) (e .cmd) (e .move) _ _ _ (historyOf card t) q (le-leb (e .stamp) s (omega arith)) (not-above s t (b .1) q)
 
   pub stamps-stored : (past : Past) → Rising past → allStored (λ a f. notAbove (lastOf past) (f .stamp)) (historyOf card past) ≡ true
   unfolding lastOf notAbove
@@ -128,7 +135,7 @@ module _ (card : Card) where
       all (λ f. cond (means (q .ask) .lags) (mr2Good (card .period) (f .noted)) true) (historyOf card past q) ≡ true
   unfolding historyOf AllTaken
   noted-good good [] t q = unfold all in refl
-  noted-good good (e ∷ past) t q = all-after _ (e .cmd) _ _ _ (historyOf card past) q (go (means (q .ask) .lags)) (noted-good good past (t .1) q)
+  noted-good good (e ∷ past) t q = all-after _ (e .cmd) (e .move) _ _ _ (historyOf card past) q (go (means (q .ask) .lags)) (noted-good good past (t .1) q)
     where
       go : (x : Bool) → cond x (mr2Good (card .period) (cond x (mr2At card past) 0)) true ≡ true
       go true = mr2-good card good past (t .1)

@@ -1,15 +1,16 @@
 -- The bench card and its starred cases (document 01, "Bench card and its cases"), as files, and a few more that the starred ones do not show.
-use Prim.Native.Nat.{ℕ, suc}
+use Prim.Native.Nat.{ℕ, suc, _-_}
 use mathlib.Core.Path.{_≡_}
-use mathlib.Core.Bool.{true, false}
+use mathlib.Core.Bool.{Bool, true, false}
 use mathlib.Core.List.{List, [], _∷_, _++_}
-use lib.IntN.{pos, negsuc}
+use lib.IntN.{ℤ, pos, negsuc}
 use lib.ListN.{length, take}
 use Rattle.rules.specs.Card.{Timing, Card}
-use Rattle.rules.specs.Commands.{Command, mrw, refab, act, rd, wr, pre, prea}
-use Rattle.rules.specs.Pins.{good, decode, encode}
-use Rattle.rules.specs.Entries.{Entry}
-use Rattle.rules.specs.Ranges.{timings}
+use Rattle.rules.specs.Commands.{Command, nop, mrw, refpb, refab, act, rd, wr, pre, prea}
+use Rattle.rules.specs.Pins.{good, decode, enabled, encode}
+use Rattle.rules.specs.Entries.{Entry, entry}
+use Rattle.rules.specs.Lists.{when}
+use Rattle.rules.specs.Ranges.{timings, sleepTimings}
 use Rattle.rules.specs.Writer.{bigEndian, fieldBytes, entryBytes}
 use Rattle.rules.specs.File.{FileVerdict, accepted, refused, judgeFile}
 use Rattle.rules.specs.Lines.{linesOf}
@@ -17,9 +18,13 @@ use Rattle.rules.specs.Lines.{linesOf}
 unfoldable pub timing : ℕ → ℕ → Timing
 timing d k = record { duration = d; floor = k }
 
--- with another period and starting MR2
-unfoldable pub benchAt : (period mr2 : ℕ) → Card
-benchAt p v = record {
+unfoldable pub onlyIf : Bool → Timing → Timing
+onlyIf true x = x
+onlyIf false x = timing 0 0
+
+-- with another period and starting MR2, and with tags 19 to 22 if it sleeps
+unfoldable pub benchWith : (period mr2 : ℕ) → (sleeps : Bool) → Card
+benchWith p v s = record {
   period = p;
   mr2 = v;
   groups = 8192;
@@ -38,10 +43,22 @@ benchAt p v = record {
   trfcpb = timing 60000 0;
   tmrr = timing 0 4;
   tmrw = timing 0 10;
+  sleeps = s;
+  tcke = onlyIf s (timing 7500 3);
+  txp = onlyIf s (timing 10000 3);
+  tckesr = onlyIf s (timing 15000 3);
+  txsr = onlyIf s (timing 140000 2);
 }
+
+unfoldable pub benchAt : (period mr2 : ℕ) → Card
+benchAt p v = benchWith p v false
 
 unfoldable pub bench : Card
 bench = benchAt 1250 0x1a
+
+-- a part that sleeps: tCKE is 6 cycles, tXP 8, tCKESR 12, tXSR 112
+unfoldable pub sleeper : Card
+sleeper = benchWith 1250 0x1a true
 
 -- ---- files
 unfoldable pub timingFields : ℕ → List Timing → List ℕ
@@ -54,7 +71,8 @@ cardFile card =
     fieldBytes 2 (bigEndian 1 (card .mr2)) ++
     fieldBytes 3 (bigEndian 2 (card .groups)) ++
     fieldBytes 4 (bigEndian 4 (card .trefi)) ++
-    timingFields 5 (timings card)
+    timingFields 5 (timings card) ++
+    when (card .sleeps) (timingFields 19 (sleepTimings card))
 
 unfoldable pub entriesFile : List Entry → List ℕ
 entriesFile [] = []
@@ -79,10 +97,13 @@ Shown (prints bs ls) = linesOf bs ≡ ls
 Shown (measures bs n) = length bs ≡ n
 Shown (writes c p) = (encode c ≡ p) × (decode p ≡ good c)
 
+unfoldable pub accepts : (commands refreshes : ℕ) → ℤ → FileVerdict
+accepts m n l = accepted m n (l ∷ [])
+
 -- an entry
 infix 90 _at_
 unfoldable pub _at_ : Command → ℕ → Entry
-c at t = record { stamp = t; pins = encode c }
+c at t = entry t (encode c)
 
 unfoldable pub eightRefreshes : List Entry
 eightRefreshes =
@@ -95,24 +116,24 @@ fourActs = act 0 0 at 0 ∷ act 1 0 at 8 ∷ act 2 0 at 16 ∷ act 3 0 at 24 ∷
 unfoldable pub starred : List Case
 starred =
     judges (file bench (act 0 0 at 0 ∷ rd 0 0 false at 14 ∷ []) 20) (refused 10 7 145 15) ∷
-    judges (file bench (act 0 0 at 0 ∷ rd 0 0 false at 15 ∷ []) 20) (accepted 2 0 (pos 0)) ∷
+    judges (file bench (act 0 0 at 0 ∷ rd 0 0 false at 15 ∷ []) 20) (accepts 2 0 (pos 0)) ∷
     judges (file bench (fourActs ++ (act 4 0 at 32 ∷ [])) 60) (refused 10 11 175 40) ∷
-    judges (file bench (fourActs ++ (act 4 0 at 40 ∷ [])) 60) (accepted 5 0 (pos 0)) ∷
+    judges (file bench (fourActs ++ (act 4 0 at 40 ∷ [])) 60) (accepts 5 0 (pos 0)) ∷
     judges (file bench (act 0 0 at 0 ∷ rd 0 0 true at 15 ∷ act 0 0 at 47 ∷ []) 60) (refused 10 9 155 48) ∷
-    judges (file bench (act 0 0 at 0 ∷ rd 0 0 true at 15 ∷ act 0 0 at 48 ∷ []) 60) (accepted 3 0 (pos 0)) ∷
+    judges (file bench (act 0 0 at 0 ∷ rd 0 0 true at 15 ∷ act 0 0 at 48 ∷ []) 60) (accepts 3 0 (pos 0)) ∷
     judges (file bench (act 0 0 at 0 ∷ wr 0 0 false at 15 ∷ rd 0 0 false at 31 ∷ []) 60) (refused 10 14 155 32) ∷
-    judges (file bench (act 0 0 at 0 ∷ wr 0 0 false at 15 ∷ rd 0 0 false at 32 ∷ []) 60) (accepted 3 0 (pos 0)) ∷
+    judges (file bench (act 0 0 at 0 ∷ wr 0 0 false at 15 ∷ rd 0 0 false at 32 ∷ []) 60) (accepts 3 0 (pos 0)) ∷
     judges (file bench (act 0 0 at 0 ∷ rd 0 0 false at 15 ∷ wr 0 0 false at 30 ∷ []) 60) (refused 10 13 155 31) ∷
-    judges (file bench (act 0 0 at 0 ∷ rd 0 0 false at 15 ∷ wr 0 0 false at 31 ∷ []) 60) (accepted 3 0 (pos 0)) ∷
-    judges (file bench (prea at 0 ∷ pre 0 at 1 ∷ act 0 0 at 16 ∷ []) 60) (accepted 3 0 (pos 0)) ∷
+    judges (file bench (act 0 0 at 0 ∷ rd 0 0 false at 15 ∷ wr 0 0 false at 31 ∷ []) 60) (accepts 3 0 (pos 0)) ∷
+    judges (file bench (prea at 0 ∷ pre 0 at 1 ∷ act 0 0 at 16 ∷ []) 60) (accepts 3 0 (pos 0)) ∷
     judges (file bench (prea at 0 ∷ pre 0 at 1 ∷ act 1 0 at 16 ∷ []) 60) (refused 10 6 155 17) ∷
     judges (file bench (refab at 0 ∷ act 0 0 at 103 ∷ []) 200) (refused 10 3 145 104) ∷
-    judges (file bench (refab at 0 ∷ act 0 0 at 104 ∷ []) 200) (accepted 2 1 (negsuc 0)) ∷
+    judges (file bench (refab at 0 ∷ act 0 0 at 104 ∷ []) 200) (accepts 2 1 (negsuc 0)) ∷
     judges (file bench (act 0 0 at 0 ∷ wr 0 0 true at 15 ∷ act 0 0 at 52 ∷ []) 60) (refused 10 18 155 53) ∷
-    judges (file bench (act 0 0 at 0 ∷ wr 0 0 true at 15 ∷ act 0 0 at 53 ∷ []) 60) (accepted 3 0 (pos 0)) ∷
-    judges (file bench [] 28_079) (accepted 0 0 (pos 8)) ∷
+    judges (file bench (act 0 0 at 0 ∷ wr 0 0 true at 15 ∷ act 0 0 at 53 ∷ []) 60) (accepts 3 0 (pos 0)) ∷
+    judges (file bench [] 28_079) (accepts 0 0 (pos 8)) ∷
     judges (file bench [] 28_080) (refused 11 19 135 28_080) ∷
-    judges (file bench eightRefreshes 28_808) (accepted 8 8 (pos 1)) ∷
+    judges (file bench eightRefreshes 28_808) (accepts 8 8 (pos 1)) ∷
     judges (file bench eightRefreshes 28_809) (refused 11 20 215 28_809) ∷
     writes (act 5 0x1234) 0x20_d2ca ∷ []
 
@@ -120,11 +141,11 @@ starred =
 -- the end field, also where E is too late; a card that is cut, and one with a bad MR2; the card's 135 bytes; and the lines of document 01's two examples
 unfoldable pub further : List Case
 further =
-    judges (file (benchAt 1071 0x1c) [] 32_768) (accepted 0 0 (pos 8)) ∷
+    judges (file (benchAt 1071 0x1c) [] 32_768) (accepts 0 0 (pos 8)) ∷
     judges (file (benchAt 1071 0x1c) [] 32_769) (refused 11 19 135 32_769) ∷
-    judges (file bench (eightRefreshes ++ (refab at 832 ∷ [])) 28_808) (accepted 9 9 (pos 1)) ∷
+    judges (file bench (eightRefreshes ++ (refab at 832 ∷ [])) 28_808) (accepts 9 9 (pos 1)) ∷
     judges (file bench (mrw 2 0x19 at 0 ∷ []) 20) (refused 9 0 135 0) ∷
-    judges (file bench (mrw 2 0x1c at 0 ∷ []) 20) (accepted 1 0 (pos 0)) ∷
+    judges (file bench (mrw 2 0x1c at 0 ∷ []) 20) (accepts 1 0 (pos 0)) ∷
     judges (file bench [] 28_079 ++ endFile 28_079) (refused 12 0 142 0) ∷
     judges (file bench [] 28_080 ++ (0 ∷ [])) (refused 11 19 135 28_080) ∷
     judges (take 20 (file bench [] 20)) (refused 1 0 16 0) ∷
@@ -135,4 +156,78 @@ further =
     ) ∷
     prints (file bench (act 0 0 at 0 ∷ rd 0 0 false at 15 ∷ []) 20) (
     48 ∷ 32 ∷ 65 ∷ 67 ∷ 84 ∷ 32 ∷ 48 ∷ 10 ∷ 49 ∷ 53 ∷ 32 ∷ 82 ∷ 68 ∷ 32 ∷ 48 ∷ 10 ∷ 97 ∷ 99 ∷ 99 ∷ 101 ∷ 112 ∷ 116 ∷ 101 ∷ 100 ∷ 32 ∷ 50 ∷ 32 ∷ 48 ∷ 32 ∷ 48 ∷ 10 ∷ []
+    ) ∷ []
+
+-- ---- low clock-enable (document 02, One)
+-- pins with clock-enable low: power-down with those of NOP, self-refresh with REFab's, deep power-down with PRE-all's
+infix 90 _low_
+unfoldable pub _low_ : Command → ℕ → Entry
+c low t = entry t (encode c - enabled)
+
+-- seven of the eight REFpb of a round
+unfoldable pub sevenRefreshes : List Entry
+sevenRefreshes = refpb at 0 ∷ refpb at 50 ∷ refpb at 100 ∷ refpb at 150 ∷ refpb at 200 ∷ refpb at 250 ∷ refpb at 300 ∷ []
+
+-- the first entry stands at offset 167
+unfoldable pub sleeping : List Case
+sleeping =
+    -- rule 21: a fall to its rise, and a rise to the next fall
+    judges (file sleeper (nop low 0 ∷ nop at 5 ∷ []) 20) (refused 10 21 177 6) ∷
+    judges (file sleeper (nop low 0 ∷ nop at 6 ∷ []) 20) (accepts 0 0 (pos 0)) ∷
+    judges (file sleeper (nop low 0 ∷ nop at 6 ∷ nop low 11 ∷ []) 20) (refused 10 21 187 12) ∷
+    judges (file sleeper (nop low 0 ∷ nop at 6 ∷ nop low 12 ∷ []) 20) (accepts 0 0 (pos 0)) ∷
+    judges (file sleeper (refab low 0 ∷ nop at 12 ∷ nop low 17 ∷ []) 20) (refused 10 21 187 18) ∷
+    -- rule 22
+    judges (file sleeper (nop low 0 ∷ nop at 6 ∷ act 0 0 at 13 ∷ []) 20) (refused 10 22 187 14) ∷
+    judges (file sleeper (nop low 0 ∷ nop at 6 ∷ act 0 0 at 14 ∷ []) 20) (accepts 1 0 (pos 0)) ∷
+    judges (file sleeper (nop low 0 ∷ nop at 6 ∷ nop at 7 ∷ []) 20) (accepts 0 0 (pos 0)) ∷
+    judges (file sleeper (nop low 0 ∷ nop at 6 ∷ refab low 11 ∷ []) 20) (refused 10 21 187 12) ∷
+    -- rule 23
+    judges (file sleeper (refab low 0 ∷ nop at 11 ∷ []) 20) (refused 10 23 177 12) ∷
+    judges (file sleeper (refab low 0 ∷ nop at 12 ∷ []) 20) (accepts 0 0 (pos 0)) ∷
+    -- rule 24
+    judges (file sleeper (refpb low 0 ∷ nop at 12 ∷ act 0 0 at 123 ∷ []) 200) (refused 10 24 187 124) ∷
+    judges (file sleeper (refpb low 0 ∷ nop at 12 ∷ act 0 0 at 124 ∷ []) 200) (accepts 1 0 (pos 0)) ∷
+    judges (file sleeper (refab low 0 ∷ nop at 12 ∷ prea low 123 ∷ []) 200) (refused 10 24 187 124) ∷
+    -- 16: a fall with other pins, a rise with CS_n low, anything after deep power-down
+    judges (file sleeper (act 0 0 low 0 ∷ []) 20) (refused 16 0 167 0) ∷
+    judges (file sleeper (nop low 0 ∷ refab at 10 ∷ []) 20) (refused 16 0 177 0) ∷
+    judges (file sleeper (prea low 0 ∷ nop low 10 ∷ []) 20) (refused 16 0 177 0) ∷
+    judges (file sleeper (prea low 0 ∷ nop at 10 ∷ []) 20) (refused 16 0 177 0) ∷
+    -- self-refresh with a bank open is 8; power-down goes, and nothing delays it
+    judges (file sleeper (act 0 0 at 0 ∷ refab low 60 ∷ []) 80) (refused 8 0 177 0) ∷
+    judges (file sleeper (act 0 0 at 0 ∷ rd 0 0 false at 15 ∷ nop low 16 ∷ []) 20) (accepts 2 0 (pos 0)) ∷
+    -- delays as for REFab; not counted
+    judges (file sleeper (refab at 0 ∷ refab low 103 ∷ []) 200) (refused 10 3 177 104) ∷
+    judges (file sleeper (refab at 0 ∷ refab low 104 ∷ []) 200) (accepts 1 1 (negsuc 0)) ∷
+    -- bits 22 and 23; and bit 21 where the card has no tags 19 to 22
+    judges (file sleeper (entry 0 0x70_0000 ∷ []) 20) (refused 6 0 167 0) ∷
+    judges (file bench (nop low 0 ∷ []) 20) (refused 6 0 135 0) ∷
+    -- power-down's cycles are counted, also where an entry comes asleep
+    judges (file sleeper (nop low 0 ∷ []) 28_079) (accepts 0 0 (pos 8)) ∷
+    judges (file sleeper (nop low 0 ∷ []) 28_080) (refused 11 19 177 28_080) ∷
+    judges (file sleeper (nop low 0 ∷ nop low 30_000 ∷ []) 30_000) (refused 11 19 177 28_080) ∷
+    -- self-refresh's are not: its exit at 100,000 has number 0
+    judges (file sleeper (refab low 0 ∷ nop at 100_000 ∷ []) 128_079) (accepts 0 0 (pos 8)) ∷
+    judges (file sleeper (refab low 0 ∷ nop at 100_000 ∷ []) 128_080) (refused 11 19 187 128_080) ∷
+    -- rule 20 over a sleep
+    judges (file sleeper (eightRefreshes ++ (refab low 1000 ∷ nop at 101_000 ∷ [])) 128_808) (accepts 8 8 (pos 1)) ∷
+    judges (file sleeper (eightRefreshes ++ (refab low 1000 ∷ nop at 101_000 ∷ [])) 128_809) (refused 11 20 267 128_809) ∷
+    -- the entry's own cycle is counted; and after a deep power-down none is
+    judges (file sleeper (refab low 3_120 ∷ []) 100_000) (accepts 0 0 (pos 1)) ∷
+    judges (file sleeper (refab low 3_119 ∷ []) 100_000) (accepts 0 0 (pos 0)) ∷
+    judges (file sleeper (prea low 28_080 ∷ []) 1_000_000) (refused 11 19 167 28_080) ∷
+    judges (file sleeper (prea low 28_079 ∷ []) 1_000_000) (accepts 0 0 (pos 8)) ∷
+    -- a self-refresh exit begins the round anew, a power-down does not
+    judges (file sleeper (sevenRefreshes ++ (refab low 400 ∷ nop at 500 ∷ refpb at 700 ∷ [])) 800) (accepts 8 0 (pos 0)) ∷
+    judges (file sleeper (sevenRefreshes ++ (nop low 400 ∷ nop at 500 ∷ refpb at 700 ∷ [])) 800) (accepts 8 1 (negsuc 0)) ∷
+    -- the form: all four tags or none, before the first entry
+    judges (take 143 (cardFile sleeper) ++ endFile 20) (refused 2 0 143 0) ∷
+    judges (cardFile bench ++ entriesFile (nop at 0 ∷ []) ++ timingFields 19 (sleepTimings sleeper) ++ endFile 20) (refused 2 0 145 0) ∷
+    judges (cardFile bench ++ timingFields 20 (sleepTimings sleeper) ++ endFile 20) (refused 2 0 135 0) ∷
+    judges (cardFile bench ++ timingFields 19 (timing 1_000_001 0 ∷ []) ++ endFile 20) (refused 4 0 135 0) ∷
+    -- a fall prints as NOP
+    prints (file sleeper (nop low 0 ∷ []) 1) (
+    48 ∷ 32 ∷ 78 ∷ 79 ∷ 80 ∷ 32 ∷ 45 ∷ 10 ∷
+    97 ∷ 99 ∷ 99 ∷ 101 ∷ 112 ∷ 116 ∷ 101 ∷ 100 ∷ 32 ∷ 48 ∷ 32 ∷ 48 ∷ 32 ∷ 48 ∷ 10 ∷ []
     ) ∷ []

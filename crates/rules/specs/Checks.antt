@@ -5,16 +5,18 @@ use mathlib.Core.List.{List, [], _∷_}
 use mathlib.Core.Option.{Option, none, some}
 use lib.Dec.{leb, ltb}
 use Rattle.rules.specs.Card.{Card}
-use Rattle.rules.specs.Units.{Delays, interval, delaysOf}
+use Rattle.rules.specs.Units.{Delays, delaysOf}
 use Rattle.rules.specs.Commands.{Command, carries, is, MRW}
-use Rattle.rules.specs.Pins.{Decoded, good, wrongBits, reserved}
+use Rattle.rules.specs.Pins.{good, wrongBits, reserved}
 use Rattle.rules.specs.Registers.{mayWrite}
-use Rattle.rules.specs.Past.{Past, countedStamps}
+use Rattle.rules.specs.Levels.{Read, plain, moved, asleep, barred}
+use Rattle.rules.specs.Past.{Past}
 use Rattle.rules.specs.States.{stateGood}
 use Rattle.rules.specs.Folds.{firstOf, firstBroken}
 use Rattle.rules.specs.Delays.{delayRules}
-use Rattle.rules.specs.Entries.{Entry, View, viewOf, read, commandOf, taken}
-use Rattle.rules.specs.Account.{lpddr3, failingAt, firstFailing}
+use Rattle.rules.specs.Entries.{Entry, View, viewOf, readAfter, moveOf, judgedAs, pastWith}
+use Rattle.rules.specs.Account.{lpddr3, failingIn, firstIn}
+use Rattle.rules.specs.Clock.{booksOf}
 
 -- a refusal is four numbers; rule and cycle are 0 except for 10 and 11
 pub record Refusal : Type 0 where
@@ -37,31 +39,44 @@ unfoldable pub named : ℕ → Option (ℕ × ℕ) → Option Refusal
 named k none = none
 named k (some x) = some (refusal k (x .0) (x .1))
 
-unfoldable pub isWrong : Decoded → Bool
-isWrong (good c) = false
-isWrong wrongBits = true
-isWrong reserved = false
+unfoldable pub isWrong : Read → Bool
+isWrong (plain (good c)) = false
+isWrong (plain wrongBits) = true
+isWrong (plain reserved) = false
+isWrong (moved m) = false
+isWrong asleep = false
+isWrong barred = false
 
-unfoldable pub isReserved : Decoded → Bool
-isReserved (good c) = false
-isReserved wrongBits = false
-isReserved reserved = true
+unfoldable pub isReserved : Read → Bool
+isReserved (plain (good c)) = false
+isReserved (plain wrongBits) = false
+isReserved (plain reserved) = true
+isReserved (moved m) = false
+isReserved asleep = false
+isReserved barred = false
+
+unfoldable pub isBarred : Read → Bool
+isBarred (plain d) = false
+isBarred (moved m) = false
+isBarred asleep = false
+isBarred barred = true
 
 unfoldable pub valueGood : Card → Command → Bool
 valueGood card c = cond (is MRW c) (mayWrite (card .period) (carries c .ma) (carries c .op)) true
 
--- The checks of an entry with stamp t: whether the stamp rises; 19 and 20 through the cycle before it; the pins, the bank state, the value, the delay
--- rules; 19 and 20 at the stamp.
-unfoldable pub checks : Card → Delays → View → (rises : Bool) → (before at : Option (ℕ × ℕ)) → Decoded → (t : ℕ) → List (Option Refusal)
-checks card delays v rises before at d t =
-    let c = commandOf d in
+-- The checks of an entry with stamp t: whether the stamp rises; 19 and 20 through the cycle before it; the pins, the bank state, what is permitted, the
+-- value, the delay rules; 19 and 20 at the stamp.
+unfoldable pub checks : Card → Delays → View → (rises : Bool) → (before at : Option (ℕ × ℕ)) → Read → (t : ℕ) → List (Option Refusal)
+checks card delays v rises before at r t =
+    let c = judgedAs r in
     unless rises 5 ∷
     named 11 before ∷
-    unless (not (isWrong d)) 6 ∷
-    unless (not (isReserved d)) 7 ∷
+    unless (not (isWrong r)) 6 ∷
+    unless (not (isReserved r)) 7 ∷
     unless (stateGood (v .open?) (v .counter) c) 8 ∷
+    unless (not (isBarred r)) 16 ∷
     unless (valueGood card c) 9 ∷
-    named 10 (firstBroken (v .look) (delayRules delays c (v .counter)) t) ∷
+    named 10 (firstBroken (v .look) (delayRules delays c (moveOf r) (v .counter)) t) ∷
     named 11 at ∷ []
 
 -- ---- over the list
@@ -77,15 +92,15 @@ notBelow (e ∷ p) t = leb (e .stamp) t
 unfoldable pub entryChecks : Card → Past → Entry → List (Option Refusal)
 entryChecks card past e =
     checks card (delaysOf card) (viewOf card past) (above past (e .stamp))
-    (firstFailing lpddr3 (interval card) (countedStamps past) (e .stamp))
-    (failingAt lpddr3 (interval card) (countedStamps (taken card past e ∷ past)) (e .stamp))
-    (read card (viewOf card past) e) (e .stamp)
+    (firstIn lpddr3 (booksOf card past) (e .stamp))
+    (failingIn lpddr3 (booksOf card (pastWith card past e)) (e .stamp))
+    (readAfter card past e) (e .stamp)
 
 -- the end: E not below the last stamp; 19 and 20 through E
 unfoldable pub endChecks : Card → Past → ℕ → List (Option Refusal)
 endChecks card past end =
     unless (notBelow past end) 5 ∷
-    named 11 (firstFailing lpddr3 (interval card) (countedStamps past) (suc end)) ∷ []
+    named 11 (firstIn lpddr3 (booksOf card past) (suc end)) ∷ []
 
 unfoldable pub entryRefusal : Card → Past → Entry → Option Refusal
 entryRefusal card past e = firstOf (entryChecks card past e)

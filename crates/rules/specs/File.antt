@@ -1,21 +1,20 @@
 -- The verdict of a whole file, field by field, each refusal with its offset (document 01, "What comes back").
 use Prim.Native.Nat.{ℕ, zero, suc, _+_}
-use mathlib.Core.Bool.{cond}
+use mathlib.Core.Bool.{Bool, true, false, cond}
 use mathlib.Core.List.{List, [], _∷_}
 use mathlib.Core.Option.{Option, none, some}
 use lib.Dec.{eqb}
 use lib.IntN.{ℤ}
 use lib.ListN.{length}
-use Rattle.rules.specs.Units.{interval}
-use Rattle.rules.specs.Past.{Past, countedStamps, commandCount}
-use Rattle.rules.specs.Account.{lpddr3, ledgerAfter}
-use Rattle.rules.specs.Entries.{taken}
+use Rattle.rules.specs.Past.{Past, commandCount}
+use Rattle.rules.specs.Entries.{pastWith}
 use Rattle.rules.specs.Checks.{Refusal, entryRefusal, endRefusal}
+use Rattle.rules.specs.Verdict.{refreshCount, ledgersAt}
 use Rattle.rules.specs.Form.{Field, sizeOf, Head, whole, cut, badTag, badLength, headOf, cardOf, fieldGood, entryOf, endOf}
 
--- four numbers of a refusal, or entries other than NOP, counted refreshes and the ledger at E
+-- four numbers of a refusal, or entries other than NOP, counted refreshes and the ledger at E of each book
 pub data FileVerdict : Type 0 where
-  accepted : (commands refreshes : ℕ) (ledger : ℤ) → FileVerdict
+  accepted : (commands refreshes : ℕ) (ledgers : List ℤ) → FileVerdict
   refused : (number rule offset cycle : ℕ) → FileVerdict
 
 -- what one field does: the file goes on behind it, or ends with a verdict
@@ -33,11 +32,10 @@ cardStep fs past at f rest = cond (fieldGood fs f) (goesOn (f ∷ fs) past (at +
 
 unfoldable pub entryStep : List Field → Past → ℕ → Field → List ℕ → Step
 entryStep fs past at f rest =
-    orRefused at (entryRefusal (cardOf fs) past (entryOf f)) (goesOn fs (taken (cardOf fs) past (entryOf f) ∷ past) (at + sizeOf f) rest)
+    orRefused at (entryRefusal (cardOf fs) past (entryOf f)) (goesOn fs (pastWith (cardOf fs) past (entryOf f)) (at + sizeOf f) rest)
 
 unfoldable pub acceptedAt : List Field → Past → ℕ → FileVerdict
-acceptedAt fs past end =
-    accepted (commandCount past) (length (countedStamps past)) (ledgerAfter (lpddr3 .credit) (interval (cardOf fs)) (countedStamps past) end)
+acceptedAt fs past end = accepted (commandCount past) (refreshCount past) (ledgersAt (cardOf fs) past end)
 
 -- bytes behind the end field are 12, at the first of them
 unfoldable pub closing : FileVerdict → ℕ → List ℕ → Step
@@ -56,8 +54,13 @@ byHead fs past at (whole f rest) =
     cond (eqb (f .tag) 32) (entryStep fs past at f rest)
     (cond (eqb (f .tag) 33) (endStep fs past at f rest) (cardStep fs past at f rest))
 
+-- an entry has come
+unfoldable pub begun : Past → Bool
+begun [] = false
+begun (e ∷ t) = true
+
 unfoldable pub stepOf : List Field → Past → ℕ → List ℕ → Step
-stepOf fs past at bs = byHead fs past at (headOf fs bs)
+stepOf fs past at bs = byHead fs past at (headOf (begun past) fs bs)
 
 -- the entries that were taken, and the verdict
 pub record Judged : Type 0 where

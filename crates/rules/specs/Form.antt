@@ -1,14 +1,14 @@
 -- Tagged fields over the list of bytes: head, card, entry, end (document 01, "The file: card, entries, end"). What was read of the card is the list of its
 -- fields, the newest first; the tests of a tag, of a length and of a whole card are predicates of that.
 use Prim.Native.Nat.{ℕ, suc, _+_, _*_}
-use mathlib.Core.Bool.{Bool, false, cond, _&&_, _||_}
+use mathlib.Core.Bool.{Bool, false, cond, not, _&&_, _||_}
 use mathlib.Core.List.{List, [], _∷_}
-use lib.Dec.{leb, eqb}
+use lib.Dec.{leb, ltb, eqb}
 use lib.ListN.{length, take, drop}
 use Rattle.rules.specs.Card.{Timing, Card}
 use Rattle.rules.specs.Registers.{mr2Good}
 use Rattle.rules.specs.Ranges.{periodGood, groupsGood, trefiGood, timingGood}
-use Rattle.rules.specs.Entries.{Entry}
+use Rattle.rules.specs.Entries.{Entry, entry}
 
 -- a field as it stands in the file: a tag byte, the two bytes of its length, the value
 pub record Field : Type 0 where
@@ -32,18 +32,48 @@ unfoldable pub number : List ℕ → ℕ
 number = numberFrom 0
 
 -- ---- tags and lengths
--- the card is tags 1 to 18, each once, in this order
-unfoldable pub nextTag : List Field → ℕ
-nextTag [] = 1
-nextTag (f ∷ fs) = suc (f .tag)
+-- The card's tags come in groups, each whole, its tags once and in their order. The first group always comes; a later one may, behind those before it
+pub record Group : Type 0 where
+  pub first : ℕ
+  pub last : ℕ
 
+infix 90 _upTo_
+unfoldable pub _upTo_ : ℕ → ℕ → Group
+a upTo b = record { first = a; last = b }
+
+unfoldable pub groups : List Group
+groups = 1 upTo 18 ∷ 19 upTo 22 ∷ []
+
+-- the tag of the newest field, 0 before the first
+unfoldable pub lastTag : List Field → ℕ
+lastTag [] = 0
+lastTag (f ∷ fs) = f .tag
+
+-- a group ends with this tag
+unfoldable pub endsGroup : List Group → ℕ → Bool
+endsGroup [] t = false
+endsGroup (g ∷ gs) t = eqb (g .last) t || endsGroup gs t
+
+-- a group begins with this tag
+unfoldable pub beginsGroup : List Group → ℕ → Bool
+beginsGroup [] t = false
+beginsGroup (g ∷ gs) t = eqb (g .first) t || beginsGroup gs t
+
+-- the card could end here
 unfoldable pub cardWhole : List Field → Bool
-cardWhole [] = false
-cardWhole (f ∷ fs) = eqb (f .tag) 18
+cardWhole fs = endsGroup groups (lastTag fs)
 
--- the next tag of the card, or behind it an entry (32) or the end (33)
-unfoldable pub mayCome : List Field → ℕ → Bool
-mayCome fs tag = cond (cardWhole fs) (eqb tag 32 || eqb tag 33) (eqb tag (nextTag fs))
+-- an entry (32) or the end (33)
+unfoldable pub ofTrace : ℕ → Bool
+ofTrace tag = eqb tag 32 || eqb tag 33
+
+-- Behind a tag of the card, the next one; where the card could end, an entry or the end, or, before the first entry, the first tag of a later group
+unfoldable pub mayFollow : (entries : Bool) → (last tag : ℕ) → Bool
+mayFollow entries last tag =
+    cond (endsGroup groups last) (ofTrace tag || (not entries && (ltb last tag && beginsGroup groups tag))) (eqb tag (suc last))
+
+unfoldable pub mayCome : (entries : Bool) → List Field → ℕ → Bool
+mayCome entries fs tag = mayFollow entries (lastTag fs) tag
 
 -- a tag and a length that it may have
 pub record Listed : Type 0 where
@@ -58,6 +88,7 @@ unfoldable pub lengths : List Listed
 lengths =
     1 of 4 ∷ 2 of 1 ∷ 3 of 2 ∷ 4 of 4 ∷
     5 of 5 ∷ 6 of 5 ∷ 7 of 5 ∷ 8 of 5 ∷ 9 of 5 ∷ 10 of 5 ∷ 11 of 5 ∷ 12 of 5 ∷ 13 of 5 ∷ 14 of 5 ∷ 15 of 5 ∷ 16 of 5 ∷ 17 of 5 ∷ 18 of 5 ∷
+    19 of 5 ∷ 20 of 5 ∷ 21 of 5 ∷ 22 of 5 ∷
     32 of 7 ∷ 33 of 4 ∷ []
 
 unfoldable pub isListed : List Listed → (tag size : ℕ) → Bool
@@ -84,9 +115,9 @@ sized t [] = cut
 sized t (h ∷ []) = cut
 sized t (h ∷ l ∷ bs) = cond (lengthGood t (256 * h + l)) (valued t h l bs) badLength
 
-unfoldable pub headOf : List Field → List ℕ → Head
-headOf fs [] = cut
-headOf fs (t ∷ bs) = cond (mayCome fs t) (sized t bs) badTag
+unfoldable pub headOf : (entries : Bool) → List Field → List ℕ → Head
+headOf b fs [] = cut
+headOf b fs (t ∷ bs) = cond (mayCome b fs t) (sized t bs) badTag
 
 -- ---- values
 unfoldable pub timingOf : List ℕ → Timing
@@ -96,6 +127,11 @@ timingOf v = record { duration = number (take 4 v); floor = number (drop 4 v) }
 unfoldable pub valueOf : ℕ → List Field → List ℕ
 valueOf t [] = []
 valueOf t (f ∷ fs) = cond (eqb (f .tag) t) (f .value) (valueOf t fs)
+
+-- the card has this tag
+unfoldable pub has : ℕ → List Field → Bool
+has t [] = false
+has t (f ∷ fs) = eqb (f .tag) t || has t fs
 
 unfoldable pub numberAt : ℕ → List Field → ℕ
 numberAt t fs = number (valueOf t fs)
@@ -123,6 +159,11 @@ cardOf fs = record {
   trfcpb = timingAt 16 fs;
   tmrr = timingAt 17 fs;
   tmrw = timingAt 18 fs;
+  sleeps = has 19 fs;
+  tcke = timingAt 19 fs;
+  txp = timingAt 20 fs;
+  tckesr = timingAt 21 fs;
+  txsr = timingAt 22 fs;
 }
 
 -- a card value in range; MR2 and tREFI are held against the period read before
@@ -137,7 +178,7 @@ fieldGood fs f =
 
 -- an entry: stamp (4 bytes), pins (3); the end: E
 unfoldable pub entryOf : Field → Entry
-entryOf f = record { stamp = number (take 4 (f .value)); pins = number (drop 4 (f .value)) }
+entryOf f = entry (number (take 4 (f .value))) (number (drop 4 (f .value)))
 
 unfoldable pub endOf : Field → ℕ
 endOf f = number (f .value)

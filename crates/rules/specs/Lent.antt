@@ -1,6 +1,6 @@
 -- The lent record, apart from any struct of the code: what it holds, refusal 13, and what a step, an end and a moved-on ledger answer on any such record
 -- (document 01, "The refresh account", "What comes back"). The rules are those of the list, asked at the record's own answers.
-use Prim.Native.Nat.{ℕ, suc, _-_, max}
+use Prim.Native.Nat.{ℕ, suc, _+_, _-_, max}
 use mathlib.Core.Path.{_≡_}
 use mathlib.Core.Bool.{Bool, true, false, cond, not, _&&_}
 use mathlib.Core.List.{List, [], _∷_}
@@ -11,11 +11,11 @@ use lib.ListN.{take, getElem?}
 use lib.Signed.{leZ}
 use Rattle.rules.specs.Lists.{all}
 use Rattle.rules.specs.Card.{Card}
-use Rattle.rules.specs.Units.{interval, delaysOf}
+use Rattle.rules.specs.Units.{delaysOf}
 use Rattle.rules.specs.Commands.{Command, banks}
 use Rattle.rules.specs.Registers.{mr2Good}
 use Rattle.rules.specs.Ranges.{cardGood}
-use Rattle.rules.specs.Past.{Past, registerAfter, mr2At, counterAfter, counterAt, openAfter, isOpen, isCounted, countedStamps}
+use Rattle.rules.specs.Past.{Past, registerAfter, mr2At, levelAt, counterAfter, counterAt, openAfter, isOpen, isCounted}
 use Rattle.rules.specs.Folds.{Found, firstOf}
 use Rattle.rules.specs.Delays.{
   Ask,
@@ -35,41 +35,57 @@ use Rattle.rules.specs.Delays.{
   lastRDA-to,
   lastWR-to,
   lastWRA-to,
+  lastFall,
+  lastPowerExit,
+  lastSelfExit,
   Question,
   Meaning,
   means,
   Lookup,
 }
-use Rattle.rules.specs.Account.{lpddr3, takeOne, ledgerAfter, lastCounted, failing, firstFailing, idle, firstIdle}
-use Rattle.rules.specs.Entries.{Entry, View, read, commandOf, taken}
+use Rattle.rules.specs.Account.{lpddr3, Beat, steady, takeOne, failing, ledgerOn, sinceOn, firstOn, idle, firstIdle}
+use Rattle.rules.specs.Clock.{clock, beatOf, bookOf}
+use Rattle.rules.specs.Levels.{Level, awake, stopped, Move, levelAfter, Read}
+use Rattle.rules.specs.Entries.{Entry, View, read, recordedAs, moveOf, taken}
 use Rattle.rules.specs.Checks.{Refusal, unless, named, checks, entryRefusal}
 
 -- ---- what it holds
--- the ledger stands as after cycle `at`; a fresh one at cycle 0, where nothing falls due
+-- the ledger stands as after cycle `at`; a fresh one at cycle 0, where nothing falls due. It knows how many cycles up to there were not counted, and the
+-- level, by which those after it are counted or not. `since` is the number, among the counted cycles, since which the gap counts
 pub record Ledger : Type 0 where
   pub at : ℕ
   pub owing : ℤ
-  pub refreshed : ℕ
+  pub since : ℕ
+  pub skipped : ℕ
+  pub level : Level
+
+-- the number of the cycle where it stands; it can have skipped no more cycles than there were
+unfoldable pub numberOf : Ledger → ℕ
+numberOf g = g .at - g .skipped
 
 -- for each question, the latest entries that it asks about, the newest first and as many as it passes over and one more
 abbrev pub History : Type 0
 History = Question → List (Found ℕ)
 
-pub record Lent : Type 0 where
-  pub card : Card
+-- what is lent of the part
+pub record Share : Type 0 where
   pub mr2 : ℕ
   pub open? : ℕ → Bool
   pub counter : ℕ
-  -- the last entry's stamp, if there is one
-  pub last : Option ℕ
   pub history : History
   pub ledger : Ledger
+
+-- with the card, and the last entry's stamp, if there is one
+pub record Lent : Type 0 where
+  pub card : Card
+  pub last : Option ℕ
+  pub share : Share
 
 unfoldable pub lookIn : History → Lookup
 lookIn h q = getElem? (h q) (means (q .ask) .passed)
 
-unfoldable pub viewIn : Lent → View
-viewIn l = record { open? = l .open?; counter = l .counter; look = lookIn (l .history) }
+unfoldable pub viewIn : Share → View
+viewIn s = record { open? = s .open?; counter = s .counter; look = lookIn (s .history) }
 
 -- ---- refusal 13, clause by clause
 unfoldable pub asks : List Ask
@@ -89,15 +105,18 @@ asks =
     lastRD-to ∷
     lastRDA-to ∷
     lastWR-to ∷
-    lastWRA-to ∷ []
+    lastWRA-to ∷
+    lastFall ∷
+    lastPowerExit ∷
+    lastSelfExit ∷ []
 
 -- every entry that the record remembers is so
 unfoldable pub allStored : (Ask → Found ℕ → Bool) → History → Bool
 allStored p h = all (λ a. all (λ b. all (p a) (h (record { ask = a; bank = b }))) banks) asks
 
 -- an MR2 value that MRW may not write: the present one, or one that stood at an earlier entry
-unfoldable pub mr2sGood : Lent → Bool
-mr2sGood l = mr2Good (l .card .period) (l .mr2) && allStored (λ a f. cond (means a .lags) (mr2Good (l .card .period) (f .noted)) true) (l .history)
+unfoldable pub mr2sGood : Card → Share → Bool
+mr2sGood card s = mr2Good (card .period) (s .mr2) && allStored (λ a f. cond (means a .lags) (mr2Good (card .period) (f .noted)) true) (s .history)
 
 -- a ledger outside -8..8
 unfoldable pub owingGood : ℤ → Bool
@@ -108,8 +127,8 @@ unfoldable pub notAbove : Option ℕ → ℕ → Bool
 notAbove none s = false
 notAbove (some t) s = leb s t
 
-unfoldable pub stampsGood : Lent → Bool
-stampsGood l = allStored (λ a f. notAbove (l .last) (f .stamp)) (l .history)
+unfoldable pub stampsGood : Option ℕ → Share → Bool
+stampsGood last s = allStored (λ a f. notAbove last (f .stamp)) (s .history)
 
 -- a last entry after the ledger's cycle
 unfoldable pub lastBy : Option ℕ → ℕ → Bool
@@ -117,18 +136,20 @@ lastBy none c = true
 lastBy (some t) c = leb t c
 
 -- a last counted refresh after the ledger's cycle
-unfoldable pub refreshedGood : Ledger → Bool
-refreshedGood g = leb (g .refreshed) (g .at)
+unfoldable pub sinceGood : Ledger → Bool
+sinceGood g = leb (g .since) (numberOf g)
+
+unfoldable pub shareGood : Card → Option ℕ → Share → Bool
+shareGood card last s =
+    mr2sGood card s &&
+    owingGood (s .ledger .owing) &&
+    stampsGood last s &&
+    lastBy last (s .ledger .at) &&
+    sinceGood (s .ledger) &&
+    leb (s .counter) 7
 
 unfoldable pub lentGood : Lent → Bool
-lentGood l =
-    cardGood (l .card) &&
-    mr2sGood l &&
-    owingGood (l .ledger .owing) &&
-    stampsGood l &&
-    lastBy (l .last) (l .ledger .at) &&
-    refreshedGood (l .ledger) &&
-    leb (l .counter) 7
+lentGood l = cardGood (l .card) && shareGood (l .card) (l .last) (l .share)
 
 -- ---- a step
 -- the stamp is above the last entry's
@@ -136,110 +157,140 @@ unfoldable pub aboveLast : Option ℕ → ℕ → Bool
 aboveLast none t = true
 aboveLast (some s) t = ltb s t
 
+unfoldable pub readIn : Lent → Entry → Read
+readIn l e = read (l .card) (l .share .ledger .level) e
+
 unfoldable pub commandIn : Lent → Entry → Command
-commandIn l e = commandOf (read (l .card) (viewIn l) e)
+commandIn l e = recordedAs (readIn l e)
 
-unfoldable pub countedIn : Lent → Entry → Bool
-countedIn l e = isCounted (commandIn l e) (l .counter)
+unfoldable pub moveIn : Lent → Entry → Move
+moveIn l e = moveOf (readIn l e)
 
--- the ledger as after cycle t: idle up to it, and then, if one comes there, a counted refresh. What fell due at the cycle where it stands is not added again
-unfoldable pub ledgerTo : (I : ℕ) → Ledger → ℕ → Ledger
-ledgerTo I g t = record { at = t; owing = idle (lpddr3 .credit) I (g .owing) (g .at) (t - g .at); refreshed = g .refreshed }
+-- what an entry does to the ledger: whether it is a counted refresh, and the level from there on
+pub record Effect : Type 0 where
+  pub counted : Bool
+  pub level : Level
 
+unfoldable pub effectOf : Read → (counter : ℕ) → Level → Effect
+effectOf r n v = record { counted = isCounted (recordedAs r) n; level = levelAfter (moveOf r) v }
+
+unfoldable pub effectIn : Lent → Entry → Effect
+effectIn l e = effectOf (readIn l e) (l .share .counter) (l .share .ledger .level)
+
+-- The ledger as after cycle t, idle up to it. What fell due at the cycle where it stands is not added again. Where the cycles of its level are not counted
+-- its number stays, and it gains nothing
+unfoldable pub countedTo : Ledger → ℕ → ℕ
+countedTo g t = cond (stopped (g .level)) 0 (t - g .at)
+
+unfoldable pub ledgerTo : Beat → Ledger → ℕ → Ledger
+ledgerTo b g t = record {
+  at = t;
+  owing = idle (lpddr3 .credit) (steady b) (g .owing) (numberOf g) (countedTo g t);
+  since = g .since;
+  skipped = t - (numberOf g + countedTo g t);
+  level = g .level;
+}
+
+-- a counted refresh where it stands
 unfoldable pub refreshedAt : Bool → Ledger → Ledger
-refreshedAt true g = record { at = g .at; owing = takeOne (lpddr3 .credit) (g .owing); refreshed = g .at }
+refreshedAt true g = record { at = g .at; owing = takeOne (lpddr3 .credit) (g .owing); since = numberOf g; skipped = g .skipped; level = g .level }
 refreshedAt false g = g
 
--- an entry's own cycle. Of a ledger alone it is not known whether an entry came at its cycle: a second counted refresh there takes 1 more
--- (proofs/Ledgers, `entered-again`); that stamps rise is asked of a record
-unfoldable pub entered : (counted : Bool) → Card → Ledger → ℕ → Ledger
-entered counted card g t = refreshedAt counted (ledgerTo (interval card) g t)
+unfoldable pub atLevel : Level → Ledger → Ledger
+atLevel v g = record { at = g .at; owing = g .owing; since = g .since; skipped = g .skipped; level = v }
+
+-- an entry's own cycle, and the level from there on. Of a ledger alone it is not known whether an entry came at its cycle: a second counted refresh there
+-- takes 1 more (proofs/Ledgers, `entered-again`); that stamps rise is asked of a record
+unfoldable pub entered : Effect → Beat → Ledger → ℕ → Ledger
+entered x b g t = atLevel (x .level) (refreshedAt (x .counted) (ledgerTo b g t))
 
 unfoldable pub ledgerWith : Lent → Entry → Ledger
-ledgerWith l e = entered (countedIn l e) (l .card) (l .ledger) (e .stamp)
+ledgerWith l e = entered (effectIn l e) (beatOf (l .card)) (l .share .ledger) (e .stamp)
 
 -- 19 and 20 after the cycle where the ledger stands
-unfoldable pub failingOf : (I : ℕ) → Ledger → Option (ℕ × ℕ)
-failingOf I g = failing lpddr3 I (g .owing) (g .refreshed) (g .at)
+unfoldable pub failingOf : Beat → Ledger → Option (ℕ × ℕ)
+failingOf b g = failing lpddr3 (steady b) (g .owing) (g .since) (numberOf g) (g .at)
 
 -- in idle time after the ledger's cycle and below t
-unfoldable pub failingTo : (I : ℕ) → Ledger → ℕ → Option (ℕ × ℕ)
-failingTo I g t = firstIdle lpddr3 I (g .owing) (g .refreshed) (g .at) (t - suc (g .at))
+unfoldable pub failingTo : Beat → Ledger → ℕ → Option (ℕ × ℕ)
+failingTo b g t =
+    cond (stopped (g .level)) none (firstIdle lpddr3 (steady b) (g .owing) (g .since) (numberOf g) (g .at) (t - suc (g .at)))
 
 -- 13, then the checks of an entry
 unfoldable pub stepRefusal : Lent → Entry → Option Refusal
 stepRefusal l e =
-    let I = interval (l .card) in
+    let b = beatOf (l .card) in
+    let g = l .share .ledger in
     let t = e .stamp in
     firstOf (
     unless (lentGood l) 13 ∷
-    checks (l .card) (delaysOf (l .card)) (viewIn l) (aboveLast (l .last) t && leb (l .ledger .at) t) (failingTo I (l .ledger) t) (failingOf I (ledgerWith l e))
-    (read (l .card) (viewIn l) e) t
+    checks (l .card) (delaysOf (l .card)) (viewIn (l .share)) (aboveLast (l .last) t && leb (g .at) t) (failingTo b g t) (failingOf b (ledgerWith l e))
+    (readIn l e) t
     )
 
 -- what an entry leaves in a history: it pushes those before it back; one that is not of the kind asked for supersedes them
 unfoldable pub remembered : Meaning → Command → Found ℕ → List (Found ℕ) → List (Found ℕ)
 remembered m c f h = cond (m .only c) (f ∷ take (m .passed) h) []
 
-unfoldable pub historyAfter : Command → (n t mr2 : ℕ) → History → History
-historyAfter c n t mr2 h q =
+unfoldable pub historyAfter : Command → Move → (n t mr2 : ℕ) → History → History
+historyAfter c v n t mr2 h q =
     let m = means (q .ask) in
-    cond (m .among (q .bank) c n) (remembered m c (record { stamp = t; noted = cond (m .lags) mr2 0 }) (h q)) (h q)
+    cond (m .among (q .bank) c v n) (remembered m c (record { stamp = t; noted = cond (m .lags) mr2 0 }) (h q)) (h q)
+
+-- the share after an entry with this command and move at cycle t, its ledger then being g
+unfoldable pub shareAfter : Command → Move → (t : ℕ) → Ledger → Share → Share
+shareAfter c v t g s = record {
+  mr2 = registerAfter 2 c (s .mr2);
+  open? = λ b. openAfter b c (s .open? b);
+  counter = counterAfter c v (s .counter);
+  history = historyAfter c v (s .counter) t (s .mr2) (s .history);
+  ledger = g;
+}
 
 -- the record after an entry that was taken
 unfoldable pub lentAfter : Lent → Entry → Lent
-lentAfter l e =
-    let c = commandIn l e in
-    record {
-      card = l .card;
-      mr2 = registerAfter 2 c (l .mr2);
-      open? = λ b. openAfter b c (l .open? b);
-      counter = counterAfter c (l .counter);
-      last = some (e .stamp);
-      history = historyAfter c (l .counter) (e .stamp) (l .mr2) (l .history);
-      ledger = ledgerWith l e;
-    }
+lentAfter l e = record {
+  card = l .card;
+  last = some (e .stamp);
+  share = shareAfter (commandIn l e) (moveIn l e) (e .stamp) (ledgerWith l e) (l .share);
+}
 
 -- ---- the end offered to a record: 13, 5, 11; it answers with the ledger moved on to E
 unfoldable pub closeRefusal : Lent → ℕ → Option Refusal
 closeRefusal l end =
     firstOf (
     unless (lentGood l) 13 ∷
-    unless (lastBy (l .last) end && leb (l .ledger .at) end) 5 ∷
-    named 11 (failingTo (interval (l .card)) (l .ledger) (suc end)) ∷ []
+    unless (lastBy (l .last) end && leb (l .share .ledger .at) end) 5 ∷
+    named 11 (failingTo (beatOf (l .card)) (l .share .ledger) (suc end)) ∷ []
     )
 
 -- ---- a ledger lent alone, with its card, and moved on to cycle c: 13, 5, 11
 unfoldable pub ledgerGood : Card → Ledger → Bool
-ledgerGood card g = cardGood card && owingGood (g .owing) && refreshedGood g
+ledgerGood card g = cardGood card && owingGood (g .owing) && sinceGood g
 
 unfoldable pub moveRefusal : Card → Ledger → ℕ → Option Refusal
 moveRefusal card g c =
-    firstOf (unless (ledgerGood card g) 13 ∷ unless (leb (g .at) c) 5 ∷ named 11 (failingTo (interval card) g (suc c)) ∷ [])
+    firstOf (unless (ledgerGood card g) 13 ∷ unless (leb (g .at) c) 5 ∷ named 11 (failingTo (beatOf card) g (suc c)) ∷ [])
 
-unfoldable pub moved : Card → Ledger → ℕ → Ledger
-moved card g c = ledgerTo (interval card) g c
+unfoldable pub movedOn : Card → Ledger → ℕ → Ledger
+movedOn card g c = ledgerTo (beatOf card) g c
 
 -- and taken through an entry's own cycle t: 13, 5, 11 below it, 11 at it
-unfoldable pub enterRefusal : (counted : Bool) → Card → Ledger → ℕ → Option Refusal
-enterRefusal counted card g t =
+unfoldable pub enterRefusal : Effect → Card → Ledger → ℕ → Option Refusal
+enterRefusal x card g t =
     firstOf (
     unless (ledgerGood card g) 13 ∷
     unless (leb (g .at) t) 5 ∷
-    named 11 (failingTo (interval card) g t) ∷
-    named 11 (failingOf (interval card) (entered counted card g t)) ∷ []
+    named 11 (failingTo (beatOf card) g t) ∷
+    named 11 (failingOf (beatOf card) (entered x (beatOf card) g t)) ∷ []
     )
 
-unfoldable pub withLedger : Lent → Ledger → Lent
-withLedger l g = record {
-  card = l .card;
-  mr2 = l .mr2;
-  open? = l .open?;
-  counter = l .counter;
-  last = l .last;
-  history = l .history;
-  ledger = g;
-}
+unfoldable pub withLedger : Ledger → Share → Share
+withLedger g s = record { mr2 = s .mr2; open? = s .open?; counter = s .counter; history = s .history; ledger = g }
+
+-- the record with another ledger
+unfoldable pub putLedger : Lent → Ledger → Lent
+putLedger l g = record { card = l .card; last = l .last; share = withLedger g (l .share) }
 
 -- ---- the record that stands for a past, its ledger moved on to cycle c; a cycle that is not after the last entry moves nothing
 unfoldable pub lastOf : Past → Option ℕ
@@ -252,34 +303,45 @@ lastCycle (e ∷ t) = e .stamp
 
 unfoldable pub historyOf : Card → Past → History
 historyOf card [] q = []
-historyOf card (e ∷ t) q = historyAfter (e .cmd) (counterAt t) (e .stamp) (mr2At card t) (historyOf card t) q
+historyOf card (e ∷ t) q = historyAfter (e .cmd) (e .move) (counterAt t) (e .stamp) (mr2At card t) (historyOf card t) q
 
-unfoldable pub standingLedger : Card → Past → ℕ → Ledger
-standingLedger card past c =
-    let at = max (lastCycle past) c in
-    let cs = countedStamps past in
-    record { at = at; owing = ledgerAfter (lpddr3 .credit) (interval card) cs at; refreshed = lastCounted cs at }
+-- the ledger that stands for a past as after cycle t
+abbrev pub ledgerAt : Card → Past → ℕ → Ledger
+ledgerAt card past t = record {
+  at = t;
+  owing = ledgerOn (lpddr3 .credit) (bookOf card past) t;
+  since = sinceOn (bookOf card past) t;
+  skipped = t - clock past t;
+  level = levelAt past;
+}
 
-unfoldable pub standing : Card → Past → ℕ → Lent
-standing card past c = record {
-  card = card;
+unfoldable pub shareOf : Card → Past → ℕ → Share
+shareOf card past t = record {
   mr2 = mr2At card past;
   open? = λ b. isOpen b past;
   counter = counterAt past;
-  last = lastOf past;
   history = historyOf card past;
-  ledger = standingLedger card past c;
+  ledger = ledgerAt card past t;
 }
+
+-- the cycle that its ledger stands at
+unfoldable pub standsAt : Past → ℕ → ℕ
+standsAt past c = max (lastCycle past) c
+
+unfoldable pub standing : Card → Past → ℕ → Lent
+standing card past c = record { card = card; last = lastOf past; share = shareOf card past (standsAt past c) }
 
 unfoldable pub fresh : Card → Lent
 fresh card = record {
   card = card;
-  mr2 = card .mr2;
-  open? = λ b. false;
-  counter = 0;
   last = none;
-  history = λ q. [];
-  ledger = record { at = 0; owing = pos 0; refreshed = 0 };
+  share = record {
+    mr2 = card .mr2;
+    open? = λ b. false;
+    counter = 0;
+    history = λ q. [];
+    ledger = record { at = 0; owing = pos 0; since = 0; skipped = 0; level = awake };
+  };
 }
 
 -- every entry of the past passed all its checks
@@ -289,4 +351,4 @@ AllTaken card (x ∷ t) = ((e : Entry) × (x ≡ taken card t e) × (entryRefusa
 
 -- the ledger was moved on to cycle c, or is where the last entry left it, and no cycle up to there fails
 unfoldable pub PaidTo : Card → Past → ℕ → Type 0
-PaidTo card past c = firstFailing lpddr3 (interval card) (countedStamps past) (suc (standingLedger card past c .at)) ≡ none
+PaidTo card past c = firstOn lpddr3 (bookOf card past) (suc (standsAt past c)) ≡ none

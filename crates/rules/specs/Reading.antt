@@ -11,15 +11,18 @@ use lib.Signed.{_≤ℤ_}
 use lib.ListN.{length, take, getD}
 use Rattle.rules.specs.Lists.{Every}
 use Rattle.rules.specs.Card.{Card}
-use Rattle.rules.specs.Units.{interval, delaysOf}
+use Rattle.rules.specs.Units.{delaysOf}
 use Rattle.rules.specs.Pins.{wrongBits, reserved}
-use Rattle.rules.specs.Past.{Past, isOpen, counterAt, countedStamps, commandCount}
+use Rattle.rules.specs.Past.{Past, isOpen, counterAt, commandCount}
 use Rattle.rules.specs.States.{stateGood}
 use Rattle.rules.specs.Folds.{Found, Rule}
 use Rattle.rules.specs.Delays.{find, delayRules}
-use Rattle.rules.specs.Entries.{Entry, viewOf, read, taken, pastOver}
-use Rattle.rules.specs.Account.{Terms, lpddr3, ledgerAfter, lastCounted}
+use Rattle.rules.specs.Levels.{plain, barred}
+use Rattle.rules.specs.Entries.{Entry, entry, readAfter, moveOf, judgedAs, pastWith, pastOver}
+use Rattle.rules.specs.Account.{Terms, lpddr3, Book, ledgerOn, sinceOn}
+use Rattle.rules.specs.Clock.{booksOf}
 use Rattle.rules.specs.Checks.{Refusal, refusal, valueGood}
+use Rattle.rules.specs.Verdict.{refreshCount, ledgersAt}
 
 -- a check: when it passes, and which refusals it gives when it does not
 pub record Check : Type 1 where
@@ -68,66 +71,76 @@ module _ {Q X : Type 0} (look : Q → Option (Found X)) where
   inTime qs t = record { ok = Every (λ q. Holds q t) qs; fails = FirstBroken qs t }
 
 -- ---- 11: rules 19 and 20 after cycle t
-unfoldable pub WithinLimit : Terms → ℕ → List ℕ → ℕ → Type 0
-WithinLimit k I cs t = ledgerAfter (k .credit) I cs t ≤ℤ pos (k .limit)
+unfoldable pub WithinLimit : Terms → Book → ℕ → Type 0
+WithinLimit k b t = ledgerOn (k .credit) b t ≤ℤ pos (k .limit)
 
-unfoldable pub WithinGap : Terms → ℕ → List ℕ → ℕ → Type 0
-WithinGap k I cs t = t - lastCounted cs t ≤ k .gap * I
+unfoldable pub WithinGap : Terms → Book → ℕ → Type 0
+WithinGap k b t = b .clock t - sinceOn b t ≤ k .gap * b .schedule .span (b .clock t)
 
-pub record Paid (k : Terms) (I : ℕ) (cs : List ℕ) (t : ℕ) : Type 0 where
-  pub limit : WithinLimit k I cs t
-  pub gap : WithinGap k I cs t
+pub record Paid (k : Terms) (b : Book) (t : ℕ) : Type 0 where
+  pub limit : WithinLimit k b t
+  pub gap : WithinGap k b t
 
 -- where both fail the limit's rule is named
-unfoldable pub Unpaid : Terms → ℕ → List ℕ → ℕ → Refusal → Type 0
-Unpaid k I cs t x =
-    ((¬ WithinLimit k I cs t) × (x ≡ refusal 11 (k .limitRule) t)) ⊎
-    (WithinLimit k I cs t × (¬ WithinGap k I cs t) × (x ≡ refusal 11 (k .gapRule) t))
+unfoldable pub Unpaid : Terms → Book → ℕ → Refusal → Type 0
+Unpaid k b t x =
+    ((¬ WithinLimit k b t) × (x ≡ refusal 11 (k .limitRule) t)) ⊎
+    (WithinLimit k b t × (¬ WithinGap k b t) × (x ≡ refusal 11 (k .gapRule) t))
 
-unfoldable pub paidAt : Terms → ℕ → List ℕ → ℕ → Check
-paidAt k I cs t = record { ok = Paid k I cs t; fails = Unpaid k I cs t }
+-- ---- over several books
+unfoldable pub EachPaid : Terms → List Book → ℕ → Type 0
+EachPaid k bs t = Every (λ b. Paid k b t) bs
+
+-- the first that does not pay names its rule
+unfoldable pub FirstUnpaid : Terms → List Book → ℕ → Refusal → Type 0
+FirstUnpaid k [] t x = ⊥
+FirstUnpaid k (b ∷ bs) t x = Unpaid k b t x ⊎ (Paid k b t × FirstUnpaid k bs t x)
+
+unfoldable pub paidAt : Terms → List Book → ℕ → Check
+paidAt k bs t = record { ok = EachPaid k bs t; fails = FirstUnpaid k bs t }
 
 -- through all cycles below t, the first that fails is named
-unfoldable pub paidBelow : Terms → ℕ → List ℕ → ℕ → Check
-paidBelow k I cs t = record {
-  ok = (u : ℕ) → u < t → Paid k I cs u;
-  fails = λ x. (u : ℕ) × (u < t) × ((v : ℕ) → v < u → Paid k I cs v) × Unpaid k I cs u x;
+unfoldable pub paidBelow : Terms → List Book → ℕ → Check
+paidBelow k bs t = record {
+  ok = (u : ℕ) → u < t → EachPaid k bs u;
+  fails = λ x. (u : ℕ) × (u < t) × ((v : ℕ) → v < u → EachPaid k bs v) × FirstUnpaid k bs u x;
 }
 
 -- ---- the checks of an entry against its own past, and of the end, in document 01's order
 unfoldable pub entryReads : Card → Past → Entry → List Check
 entryReads card past e =
-    let c = taken card past e .cmd in
-    let I = interval card in
+    let r = readAfter card past e in
+    let c = judgedAs r in
     plainly 5 (Above past (e .stamp)) ∷
-    paidBelow lpddr3 I (countedStamps past) (e .stamp) ∷
-    plainly 6 (¬ (read card (viewOf card past) e ≡ wrongBits)) ∷
-    plainly 7 (¬ (read card (viewOf card past) e ≡ reserved)) ∷
+    paidBelow lpddr3 (booksOf card past) (e .stamp) ∷
+    plainly 6 (¬ (r ≡ plain wrongBits)) ∷
+    plainly 7 (¬ (r ≡ plain reserved)) ∷
     plainly 8 (stateGood (λ b. isOpen b past) (counterAt past) c ≡ true) ∷
+    plainly 16 (¬ (r ≡ barred)) ∷
     plainly 9 (valueGood card c ≡ true) ∷
-    inTime (find card past) (delayRules (delaysOf card) c (counterAt past)) (e .stamp) ∷
-    paidAt lpddr3 I (countedStamps (taken card past e ∷ past)) (e .stamp) ∷ []
+    inTime (find card past) (delayRules (delaysOf card) c (moveOf r) (counterAt past)) (e .stamp) ∷
+    paidAt lpddr3 (booksOf card (pastWith card past e)) (e .stamp) ∷ []
 
 unfoldable pub endReads : Card → Past → ℕ → List Check
 endReads card past end =
     plainly 5 (NotBelow past end) ∷
-    paidBelow lpddr3 (interval card) (countedStamps past) (suc end) ∷ []
+    paidBelow lpddr3 (booksOf card past) (suc end) ∷ []
 
 -- ---- the trace, behind a past (none, for a whole trace)
 unfoldable pub blank : Entry
-blank = record { stamp = 0; pins = 0 }
+blank = entry 0 0
 
 -- entry i against its own past
 unfoldable pub readsAt : Card → Past → List Entry → ℕ → List Check
 readsAt card past es i = entryReads card (pastOver card past (take i es)) (getD es i blank)
 
 -- accepted, with these numbers
-pub record Accepts (card : Card) (past : Past) (es : List Entry) (end m n : ℕ) (l : ℤ) : Type 0 where
+pub record Accepts (card : Card) (past : Past) (es : List Entry) (end m n : ℕ) (l : List ℤ) : Type 0 where
   pub entries : (i : ℕ) → i < length es → AllPass (readsAt card past es i)
   pub ended : AllPass (endReads card (pastOver card past es) end)
   pub commands : m ≡ commandCount (pastOver card past es)
-  pub refreshes : n ≡ length (countedStamps (pastOver card past es))
-  pub ledger : l ≡ ledgerAfter (lpddr3 .credit) (interval card) (countedStamps (pastOver card past es)) end
+  pub refreshes : n ≡ refreshCount (pastOver card past es)
+  pub ledgers : l ≡ ledgersAt card (pastOver card past es) end
 
 -- refused so at place i: an entry's, or the end's behind all of them
 pub record Refuses (card : Card) (past : Past) (es : List Entry) (end : ℕ) (x : Refusal) (i : ℕ) : Type 0 where

@@ -1,4 +1,4 @@
-// Document 01's cases and other points, by single steps. A line for each entry, end and move: the case's number, then `taken`, the ledger's number,
+// The documents' cases and other points, by single steps. A line for each entry, end and move: the case's number, then `taken`, the ledger's number,
 // or `refused` with the refusal's number, rule and cycle. Two lines more for ACT bank 5, row 1234 hex: its pins as written, and bank and row as read.
 // The cases are told in cases.txt; the file stdout is worked out from it by expected.py, over the list of entries.
 mod lines;
@@ -23,11 +23,13 @@ fn ends(rec: Record, end: u32) -> Record {
 
 // The ledger is taken out of the record, moved on and put back.
 fn moves(rec: Record, to: u32) -> Record {
-    let after = ledger::moved(rec.ledger, rec.card, to);
+    let after = ledger::moved(rec.share.ledger, rec.card, to);
     lines::of_ledger(after);
     let ledger = after.ledger;
+    let mut share = rec.share;
+    share.ledger = ledger;
     let mut next = rec;
-    next.ledger = ledger;
+    next.share = share;
     next
 }
 

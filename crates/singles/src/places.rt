@@ -4,14 +4,17 @@ use bank::Bus;
 use bank::Each;
 use bank::Four;
 use bank::Latest;
+use bank::Moves;
 use bank::Noted;
 use bank::NotedEach;
 use bank::Once;
 use bank::Record;
+use bank::Share;
 use card::Card;
 use ledger::Ledger;
+use pins::Level;
 
-// The card. Its fourteen durations stand from DURATION on and its floors from FLOOR on; those that the cases use have names.
+// The card. Its eighteen durations stand from DURATION on and its floors from FLOOR on; those that the cases use have names.
 pub const PERIOD: u32 = 0x3000000;
 
 pub const STARTING_MR2: u32 = 0x3000001;
@@ -22,7 +25,7 @@ pub const TREFI: u32 = 0x3000003;
 
 pub const DURATION: u32 = 0x3000004;
 
-pub const FLOOR: u32 = 0x3000012;
+pub const FLOOR: u32 = 0x3000016;
 
 pub const TRCD: u32 = 0x3000004;
 
@@ -36,75 +39,98 @@ pub const TDQSCK: u32 = 0x300000d;
 
 pub const TMRW: u32 = 0x3000011;
 
-pub const TRPPB_FLOOR: u32 = 0x3000013;
+pub const TCKE: u32 = 0x3000012;
 
-pub const TRAS_FLOOR: u32 = 0x3000015;
+pub const TXP: u32 = 0x3000013;
 
-pub const TRTP_FLOOR: u32 = 0x3000018;
+pub const TCKESR: u32 = 0x3000014;
 
-pub const TMRR_FLOOR: u32 = 0x300001e;
+pub const TXSR: u32 = 0x3000015;
 
-pub const TMRW_FLOOR: u32 = 0x300001f;
+pub const TRPPB_FLOOR: u32 = 0x3000017;
+
+pub const TRAS_FLOOR: u32 = 0x3000019;
+
+pub const TRTP_FLOOR: u32 = 0x300001c;
+
+pub const TMRR_FLOOR: u32 = 0x3000022;
+
+pub const TMRW_FLOOR: u32 = 0x3000023;
+
+pub const TCKE_FLOOR: u32 = 0x3000024;
+
+// Whether it has low clock-enable.
+pub const SLEEPS: u32 = 0x3000028;
 
 // The ledger.
-pub const LEDGER_AT: u32 = 0x3000020;
+pub const LEDGER_AT: u32 = 0x3000029;
 
-pub const OWED: u32 = 0x3000021;
+pub const OWED: u32 = 0x300002a;
 
-pub const REFRESHED: u32 = 0x3000022;
+pub const SINCE: u32 = 0x300002b;
+
+pub const SKIPPED: u32 = 0x300002c;
+
+pub const LEVEL: u32 = 0x300002d;
 
 // The record's own numbers, and the last entry.
-pub const MR2: u32 = 0x3000023;
+pub const MR2: u32 = 0x300002e;
 
-pub const COUNTER: u32 = 0x3000024;
+pub const COUNTER: u32 = 0x300002f;
 
-pub const FOUR_COUNT: u32 = 0x3000025;
+pub const FOUR_COUNT: u32 = 0x3000030;
 
-pub const LAST: u32 = 0x3000026;
+pub const LAST: u32 = 0x3000031;
 
-pub const NO_LAST: u32 = 0x3000027;
+pub const NO_LAST: u32 = 0x3000032;
 
-// Stamps that are remembered: of all banks, and of bank 0.
-pub const AT_FOUR: u32 = 0x3000028;
+// Stamps that are remembered: of all banks, of clock-enable, and of bank 0.
+pub const AT_FOUR: u32 = 0x3000033;
 
-pub const AT_MRW: u32 = 0x3000029;
+pub const AT_MRW: u32 = 0x3000034;
 
-pub const AT_MRR: u32 = 0x300002a;
+pub const AT_MRR: u32 = 0x3000035;
 
-pub const AT_REFAB: u32 = 0x300002b;
+pub const AT_REFAB: u32 = 0x3000036;
 
-pub const AT_REFPB: u32 = 0x300002c;
+pub const AT_REFPB: u32 = 0x3000037;
 
-pub const AT_PREA: u32 = 0x300002d;
+pub const AT_PREA: u32 = 0x3000038;
 
-pub const AT_RD: u32 = 0x300002e;
+pub const AT_RD: u32 = 0x3000039;
 
-pub const AT_WR: u32 = 0x300002f;
+pub const AT_WR: u32 = 0x300003a;
 
-pub const AT_TURN: u32 = 0x3000030;
+pub const AT_TURN: u32 = 0x300003b;
 
-pub const AT_REFPB0: u32 = 0x3000031;
+pub const AT_FALL: u32 = 0x300003c;
 
-pub const AT_PRE0: u32 = 0x3000032;
+pub const AT_POWER_EXIT: u32 = 0x300003d;
 
-pub const AT_ACT0: u32 = 0x3000033;
+pub const AT_SELF_EXIT: u32 = 0x300003e;
 
-pub const AT_RD0: u32 = 0x3000034;
+pub const AT_REFPB0: u32 = 0x300003f;
 
-pub const AT_RDA0: u32 = 0x3000035;
+pub const AT_PRE0: u32 = 0x3000040;
 
-pub const AT_WR0: u32 = 0x3000036;
+pub const AT_ACT0: u32 = 0x3000041;
 
-pub const AT_WRA0: u32 = 0x3000037;
+pub const AT_RD0: u32 = 0x3000042;
+
+pub const AT_RDA0: u32 = 0x3000043;
+
+pub const AT_WR0: u32 = 0x3000044;
+
+pub const AT_WRA0: u32 = 0x3000045;
 
 // MR2 values that are remembered.
-pub const NOTED_WR: u32 = 0x3000038;
+pub const NOTED_WR: u32 = 0x3000046;
 
-pub const NOTED_TURN: u32 = 0x3000039;
+pub const NOTED_TURN: u32 = 0x3000047;
 
-pub const NOTED_WR0: u32 = 0x300003a;
+pub const NOTED_WR0: u32 = 0x3000048;
 
-pub const NOTED_WRA0: u32 = 0x300003b;
+pub const NOTED_WRA0: u32 = 0x3000049;
 
 fn byte(value: u32) -> u8 {
     (value % 256) as u8
@@ -162,7 +188,7 @@ fn into_timings(card: Card, place: u32, value: u32) -> Card {
         next.durations[i] = value;
         return next;
     }
-    if place < LEDGER_AT {
+    if place < SLEEPS {
         let i = (place - FLOOR) as usize;
         next.floors[i] = byte(value);
     }
@@ -176,9 +202,29 @@ fn into_card(card: Card, place: u32, value: u32) -> Card {
         STARTING_MR2 => next.mr2 = byte(value),
         GROUPS => next.groups = (value % 65536) as u16,
         TREFI => next.trefi = value,
+        SLEEPS => next.sleeps = value == 1,
         _ => {}
     }
     next
+}
+
+fn level(value: u32) -> Level {
+    match value {
+        0 => Level::Awake,
+        1 => Level::PowerDown,
+        2 => Level::SelfRefresh,
+        _ => Level::Deep,
+    }
+}
+
+fn at_level(ledger: Ledger, level: Level) -> Ledger {
+    Ledger {
+        at: ledger.at,
+        owed: ledger.owed,
+        since: ledger.since,
+        skipped: ledger.skipped,
+        level: level,
+    }
 }
 
 fn into_ledger(ledger: Ledger, place: u32, value: u32) -> Ledger {
@@ -186,7 +232,9 @@ fn into_ledger(ledger: Ledger, place: u32, value: u32) -> Ledger {
     match place {
         LEDGER_AT => next.at = value,
         OWED => next.owed = byte(value),
-        REFRESHED => next.refreshed = value,
+        SINCE => next.since = value,
+        SKIPPED => next.skipped = value,
+        LEVEL => next = at_level(ledger, level(value)),
         _ => {}
     }
     next
@@ -200,6 +248,17 @@ fn into_latest(latest: Latest, place: u32, value: u32) -> Latest {
         AT_REFAB => next.refab = seen_at(value),
         AT_REFPB => next.refpb = seen_at(value),
         AT_PREA => next.prea = seen_at(value),
+        _ => {}
+    }
+    next
+}
+
+fn into_moves(moves: Moves, place: u32, value: u32) -> Moves {
+    let mut next = moves;
+    match place {
+        AT_FALL => next.fall = seen_at(value),
+        AT_POWER_EXIT => next.power_exit = seen_at(value),
+        AT_SELF_EXIT => next.self_exit = seen_at(value),
         _ => {}
     }
     next
@@ -248,25 +307,39 @@ fn into_banks(banks: Banks, place: u32, value: u32) -> Banks {
     next
 }
 
-fn into_own(rec: Record, place: u32, value: u32) -> Record {
-    let mut next = rec;
+fn into_numbers(share: Share, place: u32, value: u32) -> Share {
+    let mut next = share;
     match place {
         MR2 => next.mr2 = byte(value),
         COUNTER => next.counter = byte(value),
-        LAST => next.last = seen_at(value),
-        NO_LAST => next.last = once(false, value),
         _ => {}
     }
     next
 }
 
-pub fn put(rec: Record, place: u32, value: u32) -> Record {
-    let mut next = into_own(rec, place, value);
-    next.card = into_card(rec.card, place, value);
-    next.ledger = into_ledger(rec.ledger, place, value);
-    next.latest = into_latest(rec.latest, place, value);
-    next.bus = into_bus(rec.bus, place, value);
-    next.four = into_four(rec.four, place, value);
-    next.banks = into_banks(rec.banks, place, value);
+fn into_share(share: Share, place: u32, value: u32) -> Share {
+    let mut next = into_numbers(share, place, value);
+    next.latest = into_latest(share.latest, place, value);
+    next.moves = into_moves(share.moves, place, value);
+    next.bus = into_bus(share.bus, place, value);
+    next.four = into_four(share.four, place, value);
+    next.banks = into_banks(share.banks, place, value);
+    next.ledger = into_ledger(share.ledger, place, value);
     next
+}
+
+fn into_last(last: Once, place: u32, value: u32) -> Once {
+    match place {
+        LAST => seen_at(value),
+        NO_LAST => once(false, value),
+        _ => last,
+    }
+}
+
+pub fn put(rec: Record, place: u32, value: u32) -> Record {
+    Record {
+        card: into_card(rec.card, place, value),
+        last: into_last(rec.last, place, value),
+        share: into_share(rec.share, place, value),
+    }
 }

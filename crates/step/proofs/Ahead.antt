@@ -5,8 +5,7 @@ use mathlib.Core.Bool.{Bool, true, false, _&&_}
 use mathlib.Core.List.{List}
 use lib.ListN.{drop}
 use Rattle.rules.specs.Units.{delaysOf}
-use Rattle.rules.specs.Entries.{read}
-use Rattle.rules.specs.Lent.{commandIn, viewIn, lentGood, stepRefusal}
+use Rattle.rules.specs.Lent.{readIn, commandIn, moveIn, lentGood, stepRefusal}
 use Rattle.rules.proofs.Tests.{both-true}
 use Rattle.card.specs.declared.Delays.{Delays}
 use Rattle.pins.specs.Fronts.{frontOf}
@@ -16,7 +15,7 @@ use Rattle.bank.specs.Values.{lentOf}
 use Rattle.bank.specs.After.{recordAfter}
 use Rattle.step.specs.declared.offering.Ruling.{Ruling}
 use Rattle.step.specs.Values.{refusalOf, recordWith}
-use Rattle.step.specs.Runs.{entryAt, takes, commandsBy, refreshesBy, ran, behind, runOf}
+use Rattle.step.specs.Runs.{entryAt, takes, commandsBy, refreshesBy, ran, runOf}
 use Rattle.step.specs.Parts.{Prepared, Ruled}
 use Rattle.step.specs.Quick.{goesOn, quickOf}
 use Rattle.step.proofs.Answers.{none-so}
@@ -66,7 +65,7 @@ module _ (rec : Record) (bs : List ℕ) where
   table-none e = sym (run-stops rec bs (rw e) 1)
 
   module _ (good : lentGood (lentOf rec) ≡ true) (w : Ruling)
-      (ruled : Ruled (delaysOf (lentOf rec .card)) (lentOf rec) (read (lentOf rec .card) (viewIn (lentOf rec)) (entryAt bs)) (frontOf bs .stamp) w) where
+      (ruled : Ruled (delaysOf (lentOf rec .card)) (lentOf rec) (readIn (lentOf rec) (entryAt bs)) (frontOf bs .stamp) w) where
     told : refusalOf (w .answer) ≡ stepRefusal (lentOf rec) (entryAt bs)
     told = ruled-told rec (entryAt bs) good w ruled
 
@@ -79,7 +78,7 @@ module _ (rec : Record) (bs : List ℕ) where
         refused false = refl
 
     pub table-taken : frontOf bs .whole ≡ true → isNone (refusalOf (w .answer)) ≡ true → (s : Record) (m f : ℕ)
-        → s ≡ recordAfter rec (commandIn (lentOf rec) (entryAt bs)) (frontOf bs .stamp) (w .ledger) → m ≡ commandsBy rec (entryAt bs) → f ≡ refreshesBy rec (entryAt bs)
+        → s ≡ recordAfter rec (commandIn (lentOf rec) (entryAt bs)) (moveIn (lentOf rec) (entryAt bs)) (frontOf bs .stamp) (w .ledger) → m ≡ commandsBy rec (entryAt bs) → f ≡ refreshesBy rec (entryAt bs)
         → ran s 10 m f ≡ runOf 1 rec bs
     unfolding runOf
     table-taken e n s m f se me fe =

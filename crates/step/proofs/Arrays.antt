@@ -5,17 +5,18 @@ use mathlib.Core.Bool.{Bool, true, false, cond}
 use mathlib.Core.List.{List}
 use lib.ListN.{length, set, replicate, length-set}
 use Rattle.rules.specs.Commands.{Command, ACT, PREA, is, bankOf}
+use Rattle.rules.specs.Levels.{Move}
 use Rattle.card.specs.declared.Card.{Card}
 use Rattle.ledger.specs.declared.Ledger.{Ledger}
 use Rattle.bank.specs.declared.Each.{Each}
 use Rattle.bank.specs.declared.NotedEach.{NotedEach}
 use Rattle.bank.specs.declared.Record.{Record}
-use Rattle.bank.specs.Values.{neverEach, neverNotedEach, freshOf}
-use Rattle.bank.specs.After.{eachIf, notedEachIf, shuts, openedAfter, stampedAfter, banksAfter, recordAfter}
+use Rattle.bank.specs.Values.{neverEach, neverNotedEach, freshShare, freshOf}
+use Rattle.bank.specs.After.{eachIf, notedEachIf, shuts, openedAfter, stampedAfter, banksAfter, shareAfter, recordAfter}
 use Rattle.bank.proofs.Sizes.{EachWhole, NotedWhole, Whole}
 
 pub fresh-whole : (card : Card) → Whole (freshOf card)
-unfolding freshOf neverEach neverNotedEach
+unfolding freshOf freshShare neverEach neverNotedEach
 fresh-whole card = record {
   opened = refl;
   refpb = each;
@@ -61,15 +62,15 @@ opened-kept c o w =
     go true = refl
     go false = w
 
-pub after-whole : (r : Record) (c : Command) (t : ℕ) (g : Ledger) → Whole r → Whole (recordAfter r c t g)
-unfolding recordAfter banksAfter stampedAfter
-after-whole r c t g w = record {
-  opened = opened-kept c (r .banks .opened) (w .opened);
-  refpb = each-kept _ _ t (r .banks .refpb) (w .refpb);
-  pre = each-kept _ _ t (r .banks .pre) (w .pre);
-  act = each-kept _ _ t (r .banks .act) (w .act);
-  rd = each-kept _ _ t (r .banks .rd) (w .rd);
-  rda = each-kept _ _ t (r .banks .rda) (w .rda);
-  wr = noted-kept _ _ t _ (r .banks .wr) (w .wr);
-  wra = noted-kept _ _ t _ (r .banks .wra) (w .wra);
+pub after-whole : (r : Record) (c : Command) (v : Move) (t : ℕ) (g : Ledger) → Whole r → Whole (recordAfter r c v t g)
+unfolding recordAfter shareAfter banksAfter stampedAfter
+after-whole r c v t g w = record {
+  opened = opened-kept c (r .share .banks .opened) (w .opened);
+  refpb = each-kept _ _ t (r .share .banks .refpb) (w .refpb);
+  pre = each-kept _ _ t (r .share .banks .pre) (w .pre);
+  act = each-kept _ _ t (r .share .banks .act) (w .act);
+  rd = each-kept _ _ t (r .share .banks .rd) (w .rd);
+  rda = each-kept _ _ t (r .share .banks .rda) (w .rda);
+  wr = noted-kept _ _ t _ (r .share .banks .wr) (w .wr);
+  wra = noted-kept _ _ t _ (r .share .banks .wra) (w .wra);
 }

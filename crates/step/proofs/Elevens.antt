@@ -10,11 +10,12 @@ use lib.IntN.{ℤ, pos}
 use lib.Signed.{leZ}
 use borrow.Author.Tests.{le-leb, lt-leb}
 use Rattle.rules.specs.Card.{Card}
-use Rattle.rules.specs.Units.{interval}
+use Rattle.rules.specs.Levels.{stopped}
 use Rattle.rules.specs.Folds.{orElse, firstOf}
-use Rattle.rules.specs.Account.{Terms, lpddr3, failing, idle, firstIdle}
+use Rattle.rules.specs.Account.{Terms, lpddr3, Schedule, Beat, steady, failing, idle, firstIdle}
+use Rattle.rules.specs.Clock.{beatOf}
 use Rattle.rules.specs.Checks.{refusal, unless, named}
-use Rattle.rules.specs.Lent.{Ledger, aboveLast, ledgerTo, refreshedAt, entered, failingOf, failingTo, ledgerGood, enterRefusal}
+use Rattle.rules.specs.Lent.{Ledger, numberOf, aboveLast, Effect, ledgerTo, refreshedAt, atLevel, entered, failingOf, failingTo, ledgerGood, enterRefusal}
 use Rattle.rules.proofs.Tests.{some-none}
 use Rattle.rules.proofs.Decided.{or-none}
 use Rattle.ledger.specs.declared.After.{After}
@@ -23,35 +24,45 @@ use Rattle.step.specs.declared.account.Account.{Account}
 use Rattle.step.specs.Values.{refusalOf}
 use Rattle.step.specs.Parts.{openingRefusal, openingOf, AccountAt}
 
-module _ (k : Terms) (I : ℕ) (z : ℤ) (last : ℕ) where
-  failing-cycle : (t : ℕ) (x : ℕ × ℕ) → failing k I z last t ≡ some x → x .1 ≡ t
+module _ (k : Terms) (s : Schedule) (z : ℤ) (last : ℕ) where
+  failing-cycle : (n t : ℕ) (x : ℕ × ℕ) → failing k s z last n t ≡ some x → x .1 ≡ t
   unfolding failing
-  failing-cycle t x e = go (leZ z (pos (k .limit))) (leb (t - last) (k .gap * I)) e
+  failing-cycle n t x e = go (leZ z (pos (k .limit))) (leb (n - s .since last n) (k .gap * s .span n)) e
     where
       go : (a b : Bool) → cond a (cond b none (some (k .gapRule, t))) (some (k .limitRule, t)) ≡ some x → x .1 ≡ t
       go true true e = absurd (some-none e)
       go true false e = sym (ap (λ (y : ℕ × ℕ). y .1) (Option·some-injective _ _ e))
       go false b e = sym (ap (λ (y : ℕ × ℕ). y .1) (Option·some-injective _ _ e))
 
-module _ (k : Terms) (I : ℕ) (z : ℤ) (last s : ℕ) where
-  idle-cycle : (j : ℕ) (x : ℕ × ℕ) → firstIdle k I z last s j ≡ some x → (x .1 ≤ s + j) × (0 < j)
+module _ (k : Terms) (s : Schedule) (z : ℤ) (last n t : ℕ) where
+  idle-cycle : (j : ℕ) (x : ℕ × ℕ) → firstIdle k s z last n t j ≡ some x → (x .1 ≤ t + j) × (0 < j)
   unfolding firstIdle orElse
   idle-cycle zero x e = absurd (some-none e)
-  idle-cycle (suc j) x e = go (firstIdle k I z last s j) refl e (idle-cycle j x)
+  idle-cycle (suc j) x e = go (firstIdle k s z last n t j) refl e (idle-cycle j x)
     where
-      go : (o : Option (ℕ × ℕ)) → firstIdle k I z last s j ≡ o → orElse o (failing k I (idle (k .credit) I z s (suc j)) last (s + suc j)) ≡ some x →
-          (firstIdle k I z last s j ≡ some x → (x .1 ≤ s + j) × (0 < j)) → (x .1 ≤ s + suc j) × (0 < suc j)
-      go none n e ih = let h = failing-cycle k I (idle (k .credit) I z s (suc j)) last (s + suc j) x e in omega arith
-      go (some y) n e ih = let h = ih (n ∙ e) in omega arith
+      go : (o : Option (ℕ × ℕ)) → firstIdle k s z last n t j ≡ o → orElse o (failing k s (idle (k .credit) s z n (suc j)) last (n + suc j) (t + suc j)) ≡ some x →
+          (firstIdle k s z last n t j ≡ some x → (x .1 ≤ t + j) × (0 < j)) → (x .1 ≤ t + suc j) × (0 < suc j)
+      go none m e ih = let h = failing-cycle k s (idle (k .credit) s z n (suc j)) last (n + suc j) (t + suc j) x e in omega arith
+      go (some y) m e ih = let h = ih (m ∙ e) in omega arith
 
-below-cycle : (I : ℕ) (g : Ledger) (t : ℕ) (x : ℕ × ℕ) → failingTo I g t ≡ some x → x .1 < t
+below-cycle : (b : Beat) (g : Ledger) (t : ℕ) (x : ℕ × ℕ) → failingTo b g t ≡ some x → x .1 < t
 unfolding failingTo
-below-cycle I g t x e = let h = idle-cycle lpddr3 I (g .owing) (g .refreshed) (g .at) (t - suc (g .at)) x e in omega arith
+below-cycle b g t x e = go (stopped (g .level)) e
+  where
+    first : Option (ℕ × ℕ)
+    first = firstIdle lpddr3 (steady b) (g .owing) (g .since) (numberOf g) (g .at) (t - suc (g .at))
 
-here-cycle : (counted : Bool) (card : Card) (g : Ledger) (t : ℕ) (x : ℕ × ℕ) → failingOf (interval card) (entered counted card g t) ≡ some x → x .1 ≡ t
-unfolding failingOf entered refreshedAt ledgerTo
-here-cycle true card g t x e = failing-cycle lpddr3 _ _ _ t x e
-here-cycle false card g t x e = failing-cycle lpddr3 _ _ _ t x e
+    go : (y : Bool) → cond y none first ≡ some x → x .1 < t
+    go true h = absurd (some-none h)
+    go false h = let l = idle-cycle lpddr3 (steady b) (g .owing) (g .since) (numberOf g) (g .at) (t - suc (g .at)) x h in omega arith
+
+here-cycle : (x : Effect) (b : Beat) (g : Ledger) (t : ℕ) (y : ℕ × ℕ) → failingOf b (entered x b g t) ≡ some y → y .1 ≡ t
+unfolding failingOf entered atLevel
+here-cycle x b g t y e = failing-cycle lpddr3 _ _ _ _ _ y e ∙ stays (x .counted)
+  where
+    stays : (c : Bool) → refreshedAt c (ledgerTo b g t) .at ≡ t
+    stays true = unfold refreshedAt ledgerTo in refl
+    stays false = unfold refreshedAt ledgerTo in refl
 
 -- 13, 5 and 11 below the stamp, of all that the account tells
 told-opening : (good late rises : Bool) (t : ℕ) (before at : Option (ℕ × ℕ)) → ((x : ℕ × ℕ) → before ≡ some x → x .1 < t) → ((x : ℕ × ℕ) → at ≡ some x → x .1 ≡ t) →
@@ -79,19 +90,19 @@ told-here true true false before at e = absurd (some-none (sym e))
 told-here true true true (some x) at e = absurd (some-none (sym e))
 told-here true true true none at e = or-none (named 11 at)
 
-module _ (counted : Bool) (card : Card) (last : Option ℕ) (g : Ledger) (t : ℕ) (told : After) (left : paid.Left (enterRefusal counted card g t) g (entered counted card g t) told) where
+module _ (x : Effect) (card : Card) (last : Option ℕ) (g : Ledger) (t : ℕ) (told : After) (left : paid.Left (enterRefusal x card g t) g (entered x (beatOf card) g t) told) where
   opening-is : openingOf (aboveLast last t) t (paid.refusalOf (told .answer)) ≡ openingRefusal card last g t
   unfolding enterRefusal openingRefusal
   opening-is =
       rw (left .told)
-      (told-opening (ledgerGood card g) (leb (g .at) t) (aboveLast last t) t _ _ (below-cycle (interval card) g t) (here-cycle counted card g t))
+      (told-opening (ledgerGood card g) (leb (g .at) t) (aboveLast last t) t _ _ (below-cycle (beatOf card) g t) (here-cycle x (beatOf card) g t))
 
-  here-is : openingRefusal card last g t ≡ none → enterRefusal counted card g t ≡ named 11 (failingOf (interval card) (entered counted card g t))
+  here-is : openingRefusal card last g t ≡ none → enterRefusal x card g t ≡ named 11 (failingOf (beatOf card) (entered x (beatOf card) g t))
   unfolding enterRefusal openingRefusal
   here-is n = told-here (ledgerGood card g) (leb (g .at) t) (aboveLast last t) _ _ n
 
   pub account-so : (a : Account) → refusalOf (a .opening) ≡ openingOf (aboveLast last t) t (paid.refusalOf (told .answer)) →
-      refusalOf (a .here) ≡ paid.refusalOf (told .answer) → a .ledger ≡ told .ledger → AccountAt counted card last g t a
+      refusalOf (a .here) ≡ paid.refusalOf (told .answer) → a .ledger ≡ told .ledger → AccountAt x card last g t a
   unfolding paid.unlessRefused
   account-so a o h l = record {
     opening = o ∙ opening-is;

@@ -6,22 +6,23 @@ use mathlib.Core.Option.{none}
 use native.Mathlib.Omega.{arith}
 use lib.IntN.{ℤ, pos, negsuc, subℕ}
 use borrow.Author.Tests.{leb-true}
+use Rattle.rules.specs.Levels as levels
 use Rattle.rules.specs.Account.{lpddr3}
 use Rattle.rules.specs.Entries.{Entry, read}
 use Rattle.rules.specs.Lent as lent
-use Rattle.rules.specs.Lent.{commandIn, ledgerWith, owingGood, lentGood, stepRefusal, lentAfter}
+use Rattle.rules.specs.Lent.{readIn, commandIn, moveIn, ledgerWith, owingGood, lentGood, stepRefusal, lentAfter}
 use Rattle.rules.proofs.Tests.{both-true}
 use Rattle.rules.proofs.Biased.{sub-below, sub-from}
 use Rattle.rules.proofs.Sound.{sound-ledger, step-passed, ledger-kept, good-kept}
-use Rattle.ledger.specs.Values.{ledgerOf, stored, codeOf}
+use Rattle.pins.specs.Values.{levelOf}
+use Rattle.ledger.specs.Values.{ledgerOf, stored, levelIn, codeOf}
 use Rattle.bank.specs.declared.Record.{Record}
 use Rattle.bank.specs.Values.{lentOf}
 use Rattle.bank.specs.After.{afterCommand}
 use Rattle.bank.proofs.Sizes.{Whole}
-use Rattle.bank.proofs.Changed.{after-is, good-args, record-after}
+use Rattle.bank.proofs.Changed.{after-is, good-args, recorded-bank, record-after}
 use Rattle.step.specs.Values.{recordWith}
 use Rattle.step.proofs.Arrays.{after-whole}
-use Rattle.step.proofs.Leaves.{bank-by}
 
 -- what a run keeps of a record
 pub record Good (rec : Record) : Type 0 where
@@ -37,22 +38,36 @@ stored-back (negsuc n) e =
     let k : 8 - suc (7 - n) ≡ n = omega arith in
     sub-below (7 - n) 8 (omega arith) ∙ ap negsuc k
 
+level-back : (l : levels.Level) → levelOf (levelIn l) ≡ l
+unfolding levelOf levelIn
+level-back levels.awake = refl
+level-back levels.powerDown = refl
+level-back levels.selfRefresh = refl
+level-back levels.deep = refl
+
 pub ledger-back : (g : lent.Ledger) → owingGood (g .owing) ≡ true → ledgerOf (codeOf g) ≡ g
 unfolding ledgerOf codeOf
-ledger-back g e = λ i. record { at = g .at; owing = stored-back (g .owing) e i; refreshed = g .refreshed }
+ledger-back g e = λ i. record {
+  at = g .at;
+  owing = stored-back (g .owing) e i;
+  since = g .since;
+  skipped = g .skipped;
+  level = level-back (g .level) i;
+}
 
 -- ---- the record then
 module _ (rec : Record) (e : Entry) (g : Good rec) (n : stepRefusal (lentOf rec) e ≡ none) where
   pub lent-with : lentOf (recordWith rec e) ≡ lentAfter (lentOf rec) e
-  unfolding recordWith commandIn read
+  unfolding recordWith commandIn moveIn readIn read
   lent-with =
       let l = lentOf rec in
       let c = commandIn l e in
+      let v = moveIn l e in
       let there = ledgerWith l e in
-      let args = good-args rec (e .stamp) c (g .passed) (step-passed l e n .above) (bank-by (e .pins) _ refl) in
+      let args = good-args rec (e .stamp) c (g .passed) (step-passed l e n .above) (recorded-bank _ _ (e .pins)) in
       let back = ledger-back there (sound-ledger (l .card) there (ledger-kept l e n) .owing) in
-      record-after rec c (e .stamp) (codeOf there) (g .arrays) args ∙ ap (afterCommand l c (e .stamp)) back ∙ sym (after-is l e)
+      record-after rec c v (e .stamp) (codeOf there) (g .arrays) args ∙ ap (afterCommand l c v (e .stamp)) back ∙ sym (after-is l e)
 
   pub good-with : Good (recordWith rec e)
   unfolding recordWith
-  good-with = record { passed = rw lent-with (good-kept (lentOf rec) e n); arrays = after-whole rec _ _ _ (g .arrays) }
+  good-with = record { passed = rw lent-with (good-kept (lentOf rec) e n); arrays = after-whole rec _ _ _ _ (g .arrays) }

@@ -9,6 +9,8 @@ use Rattle.rules.specs.Bits.{bits, on}
 use Rattle.rules.specs.Commands.{Kind, NOP, MRW, MRR, REFPB, REFAB, ACT, RD, WR, PRE, PREA, RESERVED, code}
 use Rattle.rules.specs.Pins.{listedMA, gathered, maRuns, opRuns, kindAt, ofKind, decode, Decoded, good, wrongBits, reserved}
 use Rattle.rules.specs.Commands as rules
+use Rattle.rules.specs.Levels.{awake, plain, readPins}
+use Rattle.rules.proofs.Waking.{awake-reads}
 use Rattle.pins.specs.Places.{bankOn, apOn}
 use Rattle.pins.proofs.Places.{gathers}
 use Rattle.step.specs.Ready.{Cold, hotOf, hotWith}
@@ -51,6 +53,15 @@ by-kind p e n =
     let edge : bits p 0 10 ≡ p % 1024 = unfold bits in rw (div-one p) in
     let h : hotOf (decode p) ≡ hotOf (ofKind (kindAt (bits p 0 10)) p) = rw (eq-eqb _ _ e, cs) in
     sym (h ∙ of-kind _ p ∙ ap (λ (x : ℕ). hotWith (code (kindAt x))) edge)
+
+-- awake, what a quick run takes is read by the pins alone, whether or not the card has low clock-enable
+pub awake-hot : (sleeps : Bool) (p : ℕ) → (hotOf (decode p) ≡ Cold → ⊥) → readPins sleeps awake p ≡ plain (decode p)
+awake-hot sleeps p h = go (decode p) refl h
+  where
+    go : (x : Decoded) → decode p ≡ x → (hotOf x ≡ Cold → ⊥) → readPins sleeps awake p ≡ plain x
+    go (good c) e h = awake-reads sleeps p c e
+    go wrongBits e h = absurd (h (unfold hotOf in refl))
+    go reserved e h = absurd (h (unfold hotOf in refl))
 
 -- ---- what the pins name
 -- the bank, and auto precharge

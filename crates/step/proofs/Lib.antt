@@ -1,5 +1,5 @@
 -- Laws of a step: its answers, the account's two 11, its parts, what it leaves; that it keeps a sound record sound. Of a run: entry by entry and part by part. Of the quick
--- run: kinds, delay rules that do not speak; what the quick test clears is taken; its loop; it is a part of the run. The turns of a run. Promises; and runs of steps.
+-- run: kinds, delay rules that do not speak; what it begins with; what the quick test clears is taken; its loop; it is a part of the run. The turns of a run. Promises; and runs of steps.
 pub mod Answers
 pub mod Elevens
 pub mod Split
@@ -10,6 +10,7 @@ pub mod Onward
 pub mod Levels
 pub mod Within
 pub mod Quiet
+pub mod Standing
 pub mod Cleared
 pub mod Places
 pub mod Begun

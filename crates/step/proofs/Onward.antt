@@ -9,7 +9,7 @@ use native.Mathlib.Omega.{arith}
 use lib.ListN.{length, take, drop, length-drop}
 use lib.Seq.{take-all, drop-drop}
 use Rattle.rules.specs.Commands.{NOP, is}
-use Rattle.rules.specs.Lent.{commandIn, countedIn, stepRefusal}
+use Rattle.rules.specs.Lent.{commandIn, effectIn, stepRefusal}
 use Rattle.rules.proofs.Tests.{both-true}
 use Rattle.pins.specs.Fronts.{frontOf}
 use Rattle.pins.proofs.Fronts.{entry-room}
@@ -80,7 +80,7 @@ commands-low rec bs = go (is NOP (commandIn (lentOf rec) (entryAt bs)))
 
 refreshes-low : (rec : Record) (bs : List ℕ) → refreshesBy rec (entryAt bs) ≤ 1
 unfolding refreshesBy
-refreshes-low rec bs = go (countedIn (lentOf rec) (entryAt bs))
+refreshes-low rec bs = go (effectIn (lentOf rec) (entryAt bs) .counted)
   where
     go : (b : Bool) → cond b 1 0 ≤ 1
     go true = omega arith

@@ -1,33 +1,37 @@
 -- What an entry of each kind changes, in place, is what it changes in the record.
-use Prim.Native.Nat.{ℕ, _≤_, _<_}
+use Prim.Native.Nat.{ℕ, _≤_}
 use mathlib.Core.Path.{_≡_, refl, ap, _∙_}
 use mathlib.Core.Bool.{Bool, true, false, cond}
-use native.Mathlib.Nat.{le-trans}
 use lib.ListN.{set}
 use Rattle.rules.specs.Commands as rules
 use Rattle.rules.specs.Commands.{NOP, code, bare, carries, kindOf, bankOf, apOf, is}
 use Rattle.rules.specs.Past.{registerAfter, bankAt, isCounted}
-use Rattle.rules.specs.Units.{interval}
+use Rattle.rules.specs.Levels.{Level, awake, stays, isFall, risesFrom, levelAfter, plain}
+use Rattle.rules.specs.Account.{Beat}
+use Rattle.rules.specs.Clock.{beatOf}
 use Rattle.rules.specs.Pins.{Decoded, good, wrongBits, reserved, decode}
-use Rattle.rules.specs.Entries.{read, commandOf}
-use Rattle.rules.specs.Lent.{viewIn, commandIn, countedIn, ledgerTo, refreshedAt, entered, ledgerWith}
+use Rattle.rules.specs.Entries.{entry, read, commandOf, recordedAs, moveOf}
+use Rattle.rules.specs.Lent as lent
+use Rattle.rules.specs.Lent.{readIn, commandIn, moveIn, effectOf, effectIn, ledgerTo, refreshedAt, atLevel, entered, ledgerWith}
+use Rattle.rules.proofs.Ledgers.{moved-twice}
 use Rattle.card.specs.Values.{cardOf}
+use Rattle.pins.specs.Values.{levelOf}
 use Rattle.pins.specs.Places.{bankOn, apOn}
-use Rattle.ledger.specs.Values.{ledgerOf, codeOf}
+use Rattle.ledger.specs.Values.{ledgerOf, levelIn, codeOf}
 use Rattle.ledger.specs.declared.Ledger.{Ledger}
-use Rattle.ledger.proofs.Deadlines.{reached, reaches, reached-twice}
-use Rattle.bank.specs.Values.{lentOf}
+use Rattle.bank.specs.Values.{shareOf, lentOf}
 use Rattle.pins.specs.Counter.{counterOn}
-use Rattle.bank.specs.After.{onceAt, onceIf, notedAt, notedIf, putEach, eachIf, putNoted, notedEachIf, pushedOn, fourAfter, latestAfter, busAfter, shuts, openedAfter, stampedAfter, banksAfter, recordAfter}
+use Rattle.bank.specs.After.{onceAt, onceIf, notedAt, notedIf, putEach, eachIf, putNoted, notedEachIf, pushedOn, fourAfter, latestAfter, movesAfter, busAfter, shuts, openedAfter, stampedAfter, banksAfter, shareAfter, recordAfter}
 use Rattle.bank.specs.declared.Banks.{Banks}
 use Rattle.bank.specs.declared.Bus.{Bus}
 use Rattle.bank.specs.declared.Four.{Four}
 use Rattle.bank.specs.declared.Record.{Record}
-use Rattle.step.specs.Values.{entryOf, recordWith}
+use Rattle.step.specs.Values.{recordWith}
 use Rattle.step.specs.Ready.{Hot, Nop, Act, Rd, Wr, Pre, Cold, hotOf}
 use Rattle.step.specs.Runs.{commandsBy}
-use Rattle.step.specs.Quick.{hotCount, nowOf}
-use Rattle.step.proofs.Levels.{Names, named-so}
+use Rattle.step.specs.Quick.{hotCount, nowOf, EndArgs}
+use Rattle.step.proofs.Levels.{Names, named-so, awake-hot}
+use Rattle.step.proofs.Standing.{Stands, moved-back}
 
 -- the parts after an entry of this kind to bank b
 abbrev pub banksThen : Hot → (b : ℕ) → (ap : Bool) → (t m : ℕ) → Banks → Banks
@@ -121,8 +125,8 @@ fourThen Pre t x = x
 fourThen Cold t x = x
 
 module _ (rec : Record) (banks : Banks) (bus : Bus) (four : Four) (u t p : ℕ) where
-  abbrev I : ℕ
-  I = interval (cardOf (rec .card))
+  abbrev beat : Beat
+  beat = beatOf (cardOf (rec .card))
 
   -- the record so far
   abbrev now : Record
@@ -132,21 +136,24 @@ module _ (rec : Record) (banks : Banks) (bus : Bus) (four : Four) (u t p : ℕ) 
   abbrev then : Hot → Ledger → Record
   then h g = record {
     card = rec .card;
-    mr2 = rec .mr2;
-    counter = rec .counter;
     last = onceAt t;
-    latest = rec .latest;
-    bus = busThen h t (rec .mr2) bus;
-    four = fourThen h t four;
-    banks = banksThen h (bankOn p) (apOn p) t (rec .mr2) banks;
-    ledger = g;
+    share = record {
+      mr2 = rec .share .mr2;
+      counter = rec .share .counter;
+      latest = rec .share .latest;
+      moves = rec .share .moves;
+      bus = busThen h t (rec .share .mr2) bus;
+      four = fourThen h t four;
+      banks = banksThen h (bankOn p) (apOn p) t (rec .share .mr2) banks;
+      ledger = g;
+    };
   }
 
   abbrev NotCold : Hot → Type 0
   NotCold h = h ≡ Cold → ⊥
 
-  after-so : (x : Decoded) → NotCold (hotOf x) → Names p x → (g : Ledger) → recordAfter now (commandOf x) t g ≡ then (hotOf x) g
-  unfolding hotOf Names commandOf recordAfter registerAfter counterOn latestAfter busAfter fourAfter banksAfter stampedAfter openedAfter shuts onceIf notedIf eachIf notedEachIf is code kindOf carries bare bankOf apOf bankAt
+  after-so : (x : Decoded) → NotCold (hotOf x) → Names p x → (g : Ledger) → recordAfter now (commandOf x) stays t g ≡ then (hotOf x) g
+  unfolding hotOf Names commandOf recordAfter shareAfter registerAfter counterOn risesFrom latestAfter movesAfter isFall busAfter fourAfter banksAfter stampedAfter openedAfter shuts onceIf notedIf eachIf notedEachIf is code kindOf carries bare bankOf apOf bankAt
   after-so (good rules.nop) h n g = refl
   after-so (good (rules.mrw ma op)) h n g = absurd (h refl)
   after-so (good (rules.mrr ma)) h n g = absurd (h refl)
@@ -163,7 +170,7 @@ module _ (rec : Record) (banks : Banks) (bus : Bus) (four : Four) (u t p : ℕ) 
   after-so reserved h n g = absurd (h refl)
 
   -- no hot command is a counted refresh, and NOP alone is not counted as a command
-  plain-so : (x : Decoded) → NotCold (hotOf x) → (isCounted (commandOf x) (rec .counter) ≡ false) × (cond (is NOP (commandOf x)) 0 1 ≡ hotCount (hotOf x))
+  plain-so : (x : Decoded) → NotCold (hotOf x) → (isCounted (commandOf x) (rec .share .counter) ≡ false) × (cond (is NOP (commandOf x)) 0 1 ≡ hotCount (hotOf x))
   unfolding hotOf hotCount isCounted commandOf is code kindOf carries bare
   plain-so (good rules.nop) h = (refl, refl)
   plain-so (good (rules.mrw ma op)) h = absurd (h refl)
@@ -178,19 +185,25 @@ module _ (rec : Record) (banks : Banks) (bus : Bus) (four : Four) (u t p : ℕ) 
   plain-so wrongBits h = absurd (h refl)
   plain-so reserved h = absurd (h refl)
 
-  module _ (positive : 0 < I) (before : rec .ledger .at ≤ u) (above : u ≤ t) where
+  module _ (stands : Stands rec) (ends : EndArgs rec u) (above : u ≤ t) where
     -- moved on twice
-    ledger-so : codeOf (ledgerTo I (ledgerOf (codeOf (ledgerTo I (ledgerOf (rec .ledger)) u))) t) ≡ codeOf (ledgerTo I (ledgerOf (rec .ledger)) t)
-    ledger-so =
-        let g = rec .ledger in
-        rw (reaches (rec .card) g u positive before, reaches (rec .card) (reached I g u) t positive above, reaches (rec .card) g t positive (le-trans before above))
-        (reached-twice I g u t positive before above)
+    ledger-so : codeOf (ledgerTo beat (ledgerOf (codeOf (ledgerTo beat (ledgerOf (rec .share .ledger)) u))) t) ≡ codeOf (ledgerTo beat (ledgerOf (rec .share .ledger)) t)
+    ledger-so = ap (λ (g : lent.Ledger). codeOf (ledgerTo beat g t)) (moved-back rec u ends) ∙ ap codeOf (moved-twice beat (ledgerOf (rec .share .ledger)) u t (unfold ledgerOf in ends .later) above)
 
-    pub taken-so : NotCold (hotOf (decode p)) → (recordWith now (entryOf t p) ≡ nowOf rec (banksThen (hotOf (decode p)) (bankOn p) (apOn p) t (rec .mr2) banks)
-        (busThen (hotOf (decode p)) t (rec .mr2) bus) (fourThen (hotOf (decode p)) t four) t) × (commandsBy now (entryOf t p) ≡ hotCount (hotOf (decode p)))
-    unfolding recordWith commandsBy commandIn countedIn ledgerWith entered refreshedAt read viewIn lentOf
+    -- awake, as it began
+    wakes-now : levelOf (now .share .ledger .level) ≡ awake
+    unfolding codeOf ledgerTo ledgerOf
+    wakes-now = ap (λ (l : Level). levelOf (levelIn l)) (stands .wakes) ∙ (unfold levelIn levelOf in refl)
+
+    reads : NotCold (hotOf (decode p)) → readIn (lentOf now) (entry t p) ≡ plain (decode p)
+    unfolding readIn read lentOf shareOf ledgerOf cardOf
+    reads h = rw wakes-now (awake-hot (rec .card .sleeps) p h)
+
+    pub taken-so : NotCold (hotOf (decode p)) → (recordWith now (entry t p) ≡ nowOf rec (banksThen (hotOf (decode p)) (bankOn p) (apOn p) t (rec .share .mr2) banks)
+        (busThen (hotOf (decode p)) t (rec .share .mr2) bus) (fourThen (hotOf (decode p)) t four) t) × (commandsBy now (entry t p) ≡ hotCount (hotOf (decode p)))
+    unfolding recordWith commandsBy commandIn moveIn effectIn effectOf recordedAs moveOf levelAfter ledgerWith entered refreshedAt atLevel ledgerTo lentOf shareOf
     taken-so h =
         let q = plain-so (decode p) h in (
-          rw (q .0) (after-so (decode p) h (named-so p _ refl) _ ∙ ap (then (hotOf (decode p))) ledger-so),
-          q .1,
+          rw (reads h, q .0) (after-so (decode p) h (named-so p _ refl) _ ∙ ap (then (hotOf (decode p))) ledger-so),
+          rw (reads h) (q .1),
         )

@@ -14,7 +14,7 @@ use Rattle.bank.specs.declared.Record.{Record}
 use Rattle.bank.specs.Values.{lentOf}
 use Rattle.bank.specs.After.{recordAfter}
 use Rattle.step.specs.declared.Answer.{Answer}
-use Rattle.step.specs.declared.Answer.the-variants.{Taken, BadRecord, Early, Overdue, WrongBits, Reserved, State, Value, TooSoon}
+use Rattle.step.specs.declared.Answer.the-variants.{Taken, BadRecord, Early, Overdue, WrongBits, Reserved, State, Barred, Value, TooSoon}
 use Rattle.step.specs.declared.Stepped.{Stepped}
 use Rattle.step.specs.Values.{refusalOf, Left}
 use Rattle.step.proofs.account.as_told as as-told
@@ -30,7 +30,8 @@ numbered x =
     cond (eqb (x .number) 6) WrongBits (
     cond (eqb (x .number) 7) Reserved (
     cond (eqb (x .number) 8) State (
-    cond (eqb (x .number) 9) Value (TooSoon (x .rule) (x .cycle))))))))
+    cond (eqb (x .number) 16) Barred (
+    cond (eqb (x .number) 9) Value (TooSoon (x .rule) (x .cycle)))))))))
 
 abbrev answerOf : Option Refusal → Answer
 answerOf none = Taken
@@ -45,6 +46,7 @@ answer-is (Overdue q t) = refl
 answer-is WrongBits = refl
 answer-is Reserved = refl
 answer-is State = refl
+answer-is Barred = refl
 answer-is Value = refl
 answer-is (TooSoon q t) = refl
 
@@ -56,8 +58,8 @@ one-answer = tells refusalOf answerOf answer-is
 pub one-stepped : (o : Option Refusal) (rec : Record) (e : Entry) (r s : Stepped) → Left o rec e r → Left o rec e s → r ≡ s
 one-stepped o rec e r s p q =
     let a : r .answer ≡ s .answer = one-answer (r .answer) (s .answer) (p .told) (q .told) in
-    let g : r .rec .ledger ≡ s .rec .ledger = tells paid.ledgerOf paid.codeOf code-is _ _ (p .ledger) (q .ledger) in
-    let after : Ledger → Record = λ x. paid.unlessRefused o rec (recordAfter rec (lent.commandIn (lentOf rec) e) (e .stamp) x) in
+    let g : r .rec .share .ledger ≡ s .rec .share .ledger = tells paid.ledgerOf paid.codeOf code-is _ _ (p .ledger) (q .ledger) in
+    let after : Ledger → Record = λ x. paid.unlessRefused o rec (recordAfter rec (lent.commandIn (lentOf rec) e) (lent.moveIn (lentOf rec) e) (e .stamp) x) in
     let x : r .rec ≡ s .rec = p .is ∙ ap after g ∙ sym (q .is) in
     λ i. record { rec = x i; answer = a i }
 

@@ -8,126 +8,136 @@ use Rattle.rules.specs.Lists.{when, Every}
 use Rattle.rules.specs.Commands as rules
 use Rattle.rules.specs.Commands.{code, bare, carries, kindOf, bankOf, is, banks}
 use Rattle.rules.specs.Past.{bankAt}
+use Rattle.rules.specs.Levels.{stays, isFall, isRise, risesFrom}
 use Rattle.rules.specs.Folds.{permitted, permittedBy, bound}
-use Rattle.rules.specs.Delays.{Lookup, lastREFpb-to, lastACT-to, means, latestOf, laggingOf, fourthOf, latestIf, idleUse, precharged, without, from, lagging, rule, delayRules}
+use Rattle.rules.specs.Delays.{Lookup, lastREFpb-to, lastACT-to, means, latestOf, laggingOf, fourthOf, latestIf, latestMove, idleUse, precharged, without, from, lagging, rule, delayRules}
 use Rattle.rules.specs.Lent.{lookIn}
 use Rattle.rules.proofs.Tests.{_&_}
 use Rattle.card.specs.Values.{clocksOf}
 use Rattle.card.specs.declared.Delays.{Delays}
-use Rattle.bank.specs.Values.{once, noted, each, notedEach, preOf, preaOf, asked, outweighed, lentOf}
+use Rattle.bank.specs.Values.{once, noted, each, notedEach, preOf, preaOf, asked, outweighed, shareOf, lentOf}
 use Rattle.bank.specs.declared.Record.{Record}
 use Rattle.bounds.proofs.Spanned.{joined}
 use Rattle.step.specs.Ready.{topOf, wholeOf, waitsOf, laneOf, rdCycle, wrCycle, preCycle, idleCycle, actCycle}
-use Rattle.step.proofs.Within.{two, four-parts, silent, alone, both, kept-within, unless-within, fourth-within, others-within, about, eight-within, wrote-within, turned-within}
+use Rattle.step.proofs.Within.{two, four-parts, silent, alone, both, kept-within, once-within, unless-within, fourth-within, others-within, about, eight-within, after-wr, after-two, after-turn}
 
 module _ (d : Delays) (rec : Record) (b t : ℕ) where
   abbrev pub look : Lookup
-  look = lookIn (lentOf rec .history)
+  look = lookIn (lentOf rec .share .history)
 
   -- no rule is broken
   abbrev pub Quiet : rules.Command → Type 0
-  Quiet c = Every (λ q. bound look q ≤ t) (delayRules (clocksOf d) c (rec .counter))
+  Quiet c = Every (λ q. bound look q ≤ t) (delayRules (clocksOf d) c stays (rec .share .counter))
 
-  -- rules 1, 2 and 3
-  whole-parts : wholeOf d rec ≤ t → (rec .latest .mrw .at + d .tmrw ≤ t) × (rec .latest .mrr .at + d .tmrr ≤ t) × (rec .latest .refab .at + d .trfcab ≤ t)
-  whole-parts h = (omega arith, omega arith, omega arith)
+  -- rules 1, 2, 3, 22 and 24
+  whole-parts : wholeOf d rec ≤ t →
+      (rec .share .latest .mrw .at + d .tmrw ≤ t) ×
+      (rec .share .latest .mrr .at + d .tmrr ≤ t) ×
+      (rec .share .latest .refab .at + d .trfcab ≤ t) ×
+      (rec .share .moves .«power_exit» .at + d .txp ≤ t) ×
+      (rec .share .moves .«self_exit» .at + d .txsr ≤ t)
+  whole-parts h = (omega arith, omega arith, omega arith, omega arith, omega arith)
 
   pub nop-quiet : Quiet rules.nop
-  unfolding Every delayRules rule bound from lagging when is code kindOf carries bare idleUse precharged permittedBy
+  unfolding Every delayRules rule bound from lagging when is code kindOf carries bare idleUse precharged isFall isRise risesFrom permittedBy
   nop-quiet =
-      silent & silent & silent & silent & silent & silent & silent & silent & silent & silent & silent & silent & silent & silent & silent & silent & silent & silent & tt
+      silent & silent & silent & silent & silent & silent & silent & silent & silent & silent & silent &
+      silent & silent & silent & silent & silent & silent & silent & silent & silent & silent & silent & tt
 
-  pub rd-quiet : (k : ℕ) (a : Bool) → rdCycle (laneOf rec b) (waitsOf d rec) d (rec .bus) ≤ t → Quiet (rules.rd b k a)
-  unfolding Every delayRules rule bound from lagging when is code kindOf carries bare bankAt bankOf idleUse precharged permittedBy lookIn lentOf asked once noted each means latestOf laggingOf clocksOf
+  pub rd-quiet : (k : ℕ) (a : Bool) → rdCycle (laneOf rec b) (waitsOf d rec) d (rec .share .bus) ≤ t → Quiet (rules.rd b k a)
+  unfolding Every delayRules rule bound from lagging when is code kindOf carries bare bankAt bankOf idleUse precharged isFall isRise risesFrom permittedBy lookIn lentOf shareOf asked once noted each means latestOf latestMove laggingOf clocksOf
   rd-quiet k a h =
       let p = four-parts _ _ _ _ t h in
       let w = whole-parts (p .0) in
-      alone (kept-within _ t (rec .latest .mrw .seen) (rec .latest .mrw .at) 0 (w .0)) &
-      alone (kept-within _ t (rec .latest .mrr .seen) (rec .latest .mrr .at) 0 (w .1)) &
-      alone (kept-within _ t (rec .latest .refab .seen) (rec .latest .refab .at) 0 (w .2)) &
+      alone (once-within _ t (rec .share .latest .mrw) (w .0)) &
+      alone (once-within _ t (rec .share .latest .mrr) (w .1)) &
+      alone (once-within _ t (rec .share .latest .refab) (w .2)) &
       silent & silent & silent &
-      alone (kept-within _ t (getD (rec .banks .act .seen) b false) (getD (rec .banks .act .at) b 0) 0 (p .1)) &
+      alone (kept-within _ t (getD (rec .share .banks .act .seen) b false) (getD (rec .share .banks .act .at) b 0) 0 (p .1)) &
       silent & silent & silent & silent &
-      alone (kept-within _ t (rec .bus .rd .seen) (rec .bus .rd .at) 0 (p .2)) &
+      alone (once-within _ t (rec .share .bus .rd) (p .2)) &
       silent &
-      alone (kept-within _ t (rec .bus .wr .seen) (rec .bus .wr .at) (rec .bus .wr .mr2) (omega (arith, p .3, wrote-within (rec .bus .wr .mr2) (rec .mr2)))) &
-      silent & silent & silent & silent & tt
+      alone (kept-within _ t (rec .share .bus .wr .seen) (rec .share .bus .wr .at) (rec .share .bus .wr .mr2) (after-wr _ _ (rec .share .bus .wr .mr2) (rec .share .mr2) t (p .3))) &
+      silent & silent & silent & silent &
+      silent & alone (once-within _ t (rec .share .moves .«power_exit») (w .3)) & silent & alone (once-within _ t (rec .share .moves .«self_exit») (w .4)) & tt
 
-  pub wr-quiet : (k : ℕ) (a : Bool) → wrCycle (laneOf rec b) (waitsOf d rec) d (rec .bus) ≤ t → Quiet (rules.wr b k a)
-  unfolding Every delayRules rule bound from lagging when is code kindOf carries bare bankAt bankOf idleUse precharged permittedBy lookIn lentOf asked once noted each means latestOf laggingOf clocksOf
+  pub wr-quiet : (k : ℕ) (a : Bool) → wrCycle (laneOf rec b) (waitsOf d rec) d (rec .share .bus) ≤ t → Quiet (rules.wr b k a)
+  unfolding Every delayRules rule bound from lagging when is code kindOf carries bare bankAt bankOf idleUse precharged isFall isRise risesFrom permittedBy lookIn lentOf shareOf asked once noted each means latestOf latestMove laggingOf clocksOf
   wr-quiet k a h =
       let p = four-parts _ _ _ _ t h in
       let w = whole-parts (p .0) in
-      alone (kept-within _ t (rec .latest .mrw .seen) (rec .latest .mrw .at) 0 (w .0)) &
-      alone (kept-within _ t (rec .latest .mrr .seen) (rec .latest .mrr .at) 0 (w .1)) &
-      alone (kept-within _ t (rec .latest .refab .seen) (rec .latest .refab .at) 0 (w .2)) &
+      alone (once-within _ t (rec .share .latest .mrw) (w .0)) &
+      alone (once-within _ t (rec .share .latest .mrr) (w .1)) &
+      alone (once-within _ t (rec .share .latest .refab) (w .2)) &
       silent & silent & silent &
-      alone (kept-within _ t (getD (rec .banks .act .seen) b false) (getD (rec .banks .act .at) b 0) 0 (p .1)) &
+      alone (kept-within _ t (getD (rec .share .banks .act .seen) b false) (getD (rec .share .banks .act .at) b 0) 0 (p .1)) &
       silent & silent & silent & silent &
-      alone (kept-within _ t (rec .bus .wr .seen) (rec .bus .wr .at) (rec .bus .wr .mr2) (p .2)) &
-      alone (kept-within _ t (rec .bus .turn .seen) (rec .bus .turn .at) (rec .bus .turn .mr2) (omega (arith, p .3, turned-within (rec .bus .turn .mr2) (rec .mr2) (d .tdqsck)))) &
-      silent & silent & silent & silent & silent & tt
+      alone (kept-within _ t (rec .share .bus .wr .seen) (rec .share .bus .wr .at) (rec .share .bus .wr .mr2) (p .2)) &
+      alone (kept-within _ t (rec .share .bus .turn .seen) (rec .share .bus .turn .at) (rec .share .bus .turn .mr2) (after-turn _ _ (rec .share .bus .turn .mr2) (rec .share .mr2) t (p .3))) &
+      silent & silent & silent & silent & silent &
+      silent & alone (once-within _ t (rec .share .moves .«power_exit») (w .3)) & silent & alone (once-within _ t (rec .share .moves .«self_exit») (w .4)) & tt
 
   pub pre-quiet : preCycle (laneOf rec b) (waitsOf d rec) d ≤ t → Quiet (rules.pre b)
-  unfolding Every delayRules rule bound from lagging when is code kindOf carries bare bankAt bankOf idleUse precharged permittedBy lookIn lentOf asked once each notedEach means latestOf laggingOf clocksOf
+  unfolding Every delayRules rule bound from lagging when is code kindOf carries bare bankAt bankOf idleUse precharged isFall isRise risesFrom permittedBy lookIn lentOf shareOf asked once each notedEach means latestOf latestMove laggingOf clocksOf
   pre-quiet h =
       let o = two _ _ t h in
       let p = four-parts _ _ _ _ t (o .1) in
       let w = whole-parts (o .0) in
-      alone (kept-within _ t (rec .latest .mrw .seen) (rec .latest .mrw .at) 0 (w .0)) &
-      alone (kept-within _ t (rec .latest .mrr .seen) (rec .latest .mrr .at) 0 (w .1)) &
-      alone (kept-within _ t (rec .latest .refab .seen) (rec .latest .refab .at) 0 (w .2)) &
-      alone (kept-within _ t (getD (rec .banks .refpb .seen) b false) (getD (rec .banks .refpb .at) b 0) 0 (p .0)) &
+      alone (once-within _ t (rec .share .latest .mrw) (w .0)) &
+      alone (once-within _ t (rec .share .latest .mrr) (w .1)) &
+      alone (once-within _ t (rec .share .latest .refab) (w .2)) &
+      alone (kept-within _ t (getD (rec .share .banks .refpb .seen) b false) (getD (rec .share .banks .refpb .at) b 0) 0 (p .0)) &
       silent & silent & silent &
-      alone (kept-within _ t (getD (rec .banks .act .seen) b false) (getD (rec .banks .act .at) b 0) 0 (p .1)) &
+      alone (kept-within _ t (getD (rec .share .banks .act .seen) b false) (getD (rec .share .banks .act .at) b 0) 0 (p .1)) &
       silent & silent & silent & silent & silent & silent &
-      alone (kept-within _ t (getD (rec .banks .rd .seen) b false) (getD (rec .banks .rd .at) b 0) 0 (p .2)) &
+      alone (kept-within _ t (getD (rec .share .banks .rd .seen) b false) (getD (rec .share .banks .rd .at) b 0) 0 (p .2)) &
       silent &
-      alone (kept-within _ t (getD (rec .banks .wr .seen) b false) (getD (rec .banks .wr .at) b 0) (getD (rec .banks .wr .mr2) b 0)
-      (omega (arith, p .3, wrote-within (getD (rec .banks .wr .mr2) b 0) (rec .mr2)))) &
-      silent & tt
+      alone (kept-within _ t (getD (rec .share .banks .wr .seen) b false) (getD (rec .share .banks .wr .at) b 0) (getD (rec .share .banks .wr .mr2) b 0)
+      (after-wr _ _ (getD (rec .share .banks .wr .mr2) b 0) (rec .share .mr2) t (p .3))) &
+      silent &
+      silent & alone (once-within _ t (rec .share .moves .«power_exit») (w .3)) & silent & alone (once-within _ t (rec .share .moves .«self_exit») (w .4)) & tt
 
-  act-parts : (row : ℕ) → waitsOf d rec .idle ≤ t → idleCycle (laneOf rec b) (waitsOf d rec) d ≤ t → topOf (rec .banks .act .at) + d .trrd ≤ t
-      → getD (rec .four .at) 3 0 + d .tfaw ≤ t → Quiet (rules.act b row)
-  unfolding Every delayRules rule bound from lagging when is code kindOf carries bare bankAt bankOf idleUse precharged permittedBy lookIn lentOf asked once each notedEach preOf preaOf means latestOf laggingOf latestIf fourthOf clocksOf
+  act-parts : (row : ℕ) → waitsOf d rec .idle ≤ t → idleCycle (laneOf rec b) (waitsOf d rec) d ≤ t → topOf (rec .share .banks .act .at) + d .trrd ≤ t
+      → getD (rec .share .four .at) 3 0 + d .tfaw ≤ t → Quiet (rules.act b row)
+  unfolding Every delayRules rule bound from lagging when is code kindOf carries bare bankAt bankOf idleUse precharged isFall isRise risesFrom permittedBy lookIn lentOf shareOf asked once each notedEach preOf preaOf means latestOf latestMove laggingOf latestIf fourthOf clocksOf
   act-parts row hi hl ht hf =
       let o = two _ _ t hi in
       let w = whole-parts (o .0) in
       let r = two _ _ t (o .1) in
       let l = two _ _ t hl in
       let p = four-parts _ _ _ _ t (l .0) in
-      alone (kept-within _ t (rec .latest .mrw .seen) (rec .latest .mrw .at) 0 (w .0)) &
-      alone (kept-within _ t (rec .latest .mrr .seen) (rec .latest .mrr .at) 0 (w .1)) &
-      alone (kept-within _ t (rec .latest .refab .seen) (rec .latest .refab .at) 0 (w .2)) &
-      alone (kept-within _ t (getD (rec .banks .refpb .seen) b false) (getD (rec .banks .refpb .at) b 0) 0 (p .0)) &
-      alone (unless-within _ t (outweighed (getD (rec .banks .pre .seen) b false) (rec .latest .prea .seen) (getD (rec .banks .pre .at) b 0) (rec .latest .prea .at))
-      (getD (rec .banks .pre .seen) b false) (getD (rec .banks .pre .at) b 0) 0 (p .1)) &
-      alone (unless-within _ t (outweighed (rec .latest .prea .seen) (getD (rec .banks .pre .seen) b false) (rec .latest .prea .at) (getD (rec .banks .pre .at) b 0))
-      (rec .latest .prea .seen) (rec .latest .prea .at) 0 (r .0)) &
+      alone (once-within _ t (rec .share .latest .mrw) (w .0)) &
+      alone (once-within _ t (rec .share .latest .mrr) (w .1)) &
+      alone (once-within _ t (rec .share .latest .refab) (w .2)) &
+      alone (kept-within _ t (getD (rec .share .banks .refpb .seen) b false) (getD (rec .share .banks .refpb .at) b 0) 0 (p .0)) &
+      alone (unless-within _ t (outweighed (getD (rec .share .banks .pre .seen) b false) (rec .share .latest .prea .seen) (getD (rec .share .banks .pre .at) b 0) (rec .share .latest .prea .at))
+      (getD (rec .share .banks .pre .seen) b false) (getD (rec .share .banks .pre .at) b 0) 0 (p .1)) &
+      alone (unless-within _ t (outweighed (rec .share .latest .prea .seen) (getD (rec .share .banks .pre .seen) b false) (rec .share .latest .prea .at) (getD (rec .share .banks .pre .at) b 0))
+      (rec .share .latest .prea .seen) (rec .share .latest .prea .at) 0 (r .0)) &
       silent & silent &
-      alone (kept-within _ t (getD (rec .banks .act .seen) b false) (getD (rec .banks .act .at) b 0) 0 (p .2)) &
+      alone (kept-within _ t (getD (rec .share .banks .act .seen) b false) (getD (rec .share .banks .act .at) b 0) 0 (p .2)) &
       others (r .1) ht &
-      alone (fourth-within _ t (rec .four) hf) &
+      alone (fourth-within _ t (rec .share .four) hf) &
       silent & silent & silent & silent &
-      alone (kept-within _ t (getD (rec .banks .rda .seen) b false) (getD (rec .banks .rda .at) b 0) 0 (p .3)) &
+      alone (kept-within _ t (getD (rec .share .banks .rda .seen) b false) (getD (rec .share .banks .rda .at) b 0) 0 (p .3)) &
       silent &
-      alone (kept-within _ t (getD (rec .banks .wra .seen) b false) (getD (rec .banks .wra .at) b 0) (getD (rec .banks .wra .mr2) b 0)
-      (omega (arith, l .1, wrote-within (getD (rec .banks .wra .mr2) b 0) (rec .mr2)))) &
-      tt
+      alone (kept-within _ t (getD (rec .share .banks .wra .seen) b false) (getD (rec .share .banks .wra .at) b 0) (getD (rec .share .banks .wra .mr2) b 0)
+      (after-two _ _ _ (getD (rec .share .banks .wra .mr2) b 0) (rec .share .mr2) t (l .1))) &
+      silent & alone (once-within _ t (rec .share .moves .«power_exit») (w .3)) & silent & alone (once-within _ t (rec .share .moves .«self_exit») (w .4)) & tt
     where
-      others : topOf (rec .banks .refpb .at) + d .trrd ≤ t → topOf (rec .banks .act .at) + d .trrd ≤ t
+      others : topOf (rec .share .banks .refpb .at) + d .trrd ≤ t → topOf (rec .share .banks .act .at) + d .trrd ≤ t
           → permittedBy look (from (without b banks) (d .trrd) lastACT-to ++ from (without b banks) (d .trrd) lastREFpb-to) ≤ t
       others x y =
           rw (joined look (from (without b banks) (d .trrd) lastACT-to) (from (without b banks) (d .trrd) lastREFpb-to))
           (both (others-within look lastACT-to (d .trrd) b t banks (acts y)) (others-within look lastREFpb-to (d .trrd) b t banks (refs x)))
         where
-          acts : topOf (rec .banks .act .at) + d .trrd ≤ t → Every (λ k. permitted (about lastACT-to (d .trrd) k) (look (record { ask = lastACT-to; bank = k })) ≤ t) banks
-          acts h = unfold lookIn lentOf asked each means latestOf in eight-within lastACT-to (rec .banks .act .seen) (rec .banks .act .at) (d .trrd) t h
+          acts : topOf (rec .share .banks .act .at) + d .trrd ≤ t → Every (λ k. permitted (about lastACT-to (d .trrd) k) (look (record { ask = lastACT-to; bank = k })) ≤ t) banks
+          acts h = unfold lookIn lentOf shareOf asked each means latestOf latestMove in eight-within lastACT-to (rec .share .banks .act .seen) (rec .share .banks .act .at) (d .trrd) t h
 
-          refs : topOf (rec .banks .refpb .at) + d .trrd ≤ t → Every (λ k. permitted (about lastREFpb-to (d .trrd) k) (look (record { ask = lastREFpb-to; bank = k })) ≤ t) banks
-          refs h = unfold lookIn lentOf asked each means latestOf in eight-within lastREFpb-to (rec .banks .refpb .seen) (rec .banks .refpb .at) (d .trrd) t h
+          refs : topOf (rec .share .banks .refpb .at) + d .trrd ≤ t → Every (λ k. permitted (about lastREFpb-to (d .trrd) k) (look (record { ask = lastREFpb-to; bank = k })) ≤ t) banks
+          refs h = unfold lookIn lentOf shareOf asked each means latestOf latestMove in eight-within lastREFpb-to (rec .share .banks .refpb .seen) (rec .share .banks .refpb .at) (d .trrd) t h
 
-  pub act-quiet : (row : ℕ) → actCycle (laneOf rec b) (waitsOf d rec) d (rec .banks .act .at) (getD (rec .four .at) 3 0) ≤ t → Quiet (rules.act b row)
+  pub act-quiet : (row : ℕ) → actCycle (laneOf rec b) (waitsOf d rec) d (rec .share .banks .act .at) (getD (rec .share .four .at) 3 0) ≤ t → Quiet (rules.act b row)
   act-quiet row h =
       let p = four-parts _ _ _ _ t h in
       act-parts row (p .0) (p .1) (p .2) (p .3)

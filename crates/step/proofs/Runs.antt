@@ -20,10 +20,10 @@ use Rattle.rules.specs.Past.{Past}
 use Rattle.rules.specs.Folds.{orElse, firstOf}
 use Rattle.rules.specs.Entries.{Entry, pastOf}
 use Rattle.rules.specs.Checks.{Refusal, refusal, unless, checks, above, entryChecks, entryRefusal}
-use Rattle.rules.specs.Lent.{Lent, commandIn, ledgerWith, stepRefusal, lentAfter, lastCycle, standingLedger, standing, fresh, AllTaken}
+use Rattle.rules.specs.Lent.{Lent, commandIn, moveIn, ledgerWith, stepRefusal, lentAfter, lastCycle, standsAt, standing, fresh, AllTaken}
 use Rattle.rules.proofs.Tests.{le-cases}
 use Rattle.rules.proofs.Taken.{paid-to-last}
-use Rattle.rules.proofs.StepByList.{standsAt, step-by-list, step-below}
+use Rattle.rules.proofs.StepByList.{step-by-list, step-below}
 use Rattle.rules.proofs.Sound.{step-passed}
 use Rattle.rules.proofs.Steps.{runSteps, AllEntries, entries-taken, runs-iff}
 use Rattle.card.specs.declared.Card.{Card}
@@ -69,18 +69,18 @@ pub record Judges (f : Record → Entry → Stepped) (card : Card) (es : List En
   pub still : (s : Record) → run f (freshOf card) es ≡ some s → (e : Entry) (x : Refusal) → entryRefusal (cardOf card) (pastOf (cardOf card) es) e ≡ some x → f s e .rec ≡ s
 
 -- ---- the list's own refusal, also below the cycle where the ledger stands
-early : (card : rules.Card) (past : Past) (e : Entry) → e .stamp < standsAt card past 0 → entryRefusal card past e ≡ some (refusal 5 0 0)
-unfolding standingLedger lastCycle entryRefusal entryChecks checks above firstOf orElse unless
+early : (card : rules.Card) (past : Past) (e : Entry) → e .stamp < standsAt past 0 → entryRefusal card past e ≡ some (refusal 5 0 0)
+unfolding standsAt lastCycle entryRefusal entryChecks checks above firstOf orElse unless
 early card [] e h = absurd (omega arith)
 early card (x ∷ p) e h = rw (le-ltb (x .stamp) (e .stamp) (omega arith))
 
 pub by-list : (card : rules.Card) (past : Past) → cardGood card ≡ true → AllTaken card past → (e : Entry) → stepRefusal (standing card past 0) e ≡ entryRefusal card past e
 by-list card past good all e =
-    let paid = paid-to-last card good past all in
+    let paid = paid-to-last card past all in
     ⊎-elim
-    (λ (p : (standsAt card past 0 ≤ e .stamp) × (leb (standsAt card past 0) (e .stamp) ≡ true)). step-by-list card past 0 good all paid e (p .0))
-    (λ (p : (e .stamp < standsAt card past 0) × (leb (standsAt card past 0) (e .stamp) ≡ false)). step-below card past 0 good all paid e (p .0) ∙ sym (early card past e (p .0)))
-    (le-cases (standsAt card past 0) (e .stamp))
+    (λ (p : (standsAt past 0 ≤ e .stamp) × (leb (standsAt past 0) (e .stamp) ≡ true)). step-by-list card past 0 good all paid e (p .0))
+    (λ (p : (e .stamp < standsAt past 0) × (leb (standsAt past 0) (e .stamp) ≡ false)). step-below card past 0 good all paid e (p .0) ∙ sym (early card past e (p .0)))
+    (le-cases (standsAt past 0) (e .stamp))
 
 neither : {A : Type 0} (b : Bool) (x y z : A) → cond (b && false) x z ≡ cond (b && false) y z
 neither true x y z = refl
@@ -112,10 +112,10 @@ module _ (f : Record → Entry → Stepped) (keeps : Keeps f) where
   left-record : (r : Record) (e : Entry) → stepRefusal (lentOf r) e ≡ none → f r e .rec ≡ recordWith r e
   unfolding unlessRefused recordWith
   left-record r e n =
-      let after = recordAfter r (commandIn (lentOf r) e) (e .stamp) in
-      let is : f r e .rec ≡ after (f r e .rec .ledger) = rw n at (keeps r e .is) in
-      let there : ledgerOf (f r e .rec .ledger) ≡ ledgerWith (lentOf r) e = rw n at (keeps r e .ledger) in
-      is ∙ ap after (sym (code-is (f r e .rec .ledger)) ∙ ap codeOf there)
+      let after = recordAfter r (commandIn (lentOf r) e) (moveIn (lentOf r) e) (e .stamp) in
+      let is : f r e .rec ≡ after (f r e .rec .share .ledger) = rw n at (keeps r e .is) in
+      let there : ledgerOf (f r e .rec .share .ledger) ≡ ledgerWith (lentOf r) e = rw n at (keeps r e .ledger) in
+      is ∙ ap after (sym (code-is (f r e .rec .share .ledger)) ∙ ap codeOf there)
 
   run-is : (n : ℕ) (r : Record) (bs : List ℕ) → runOf n r bs ≡ steps f n r bs
   unfolding runOf steps

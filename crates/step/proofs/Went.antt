@@ -8,28 +8,31 @@ use native.Mathlib.Omega.{arith}
 use lib.Dec.{ltb}
 use lib.ListN.{length, getD, drop, length-drop}
 use lib.Seq.{drop-drop}
-use borrow.Author.Tests.{ltb-true, eq-eqb, not-true, not-false}
+use borrow.Author.Tests.{le-leb, ltb-true, eq-eqb, not-true, not-false}
 use Rattle.rules.specs.Pins.{decode}
-use Rattle.rules.specs.Lent.{ledgerTo}
+use Rattle.rules.specs.Levels.{awake, depth, sameLevel}
+use Rattle.rules.specs.Entries.{entry}
+use Rattle.rules.specs.Lent.{numberOf, countedTo, ledgerTo}
 use Rattle.rules.proofs.Tests.{both-true}
 use Rattle.card.specs.declared.Delays.{Delays}
+use Rattle.pins.specs.Values.{levelOf}
 use Rattle.pins.specs.Places.{bankOn, apOn}
 use Rattle.pins.specs.declared.Front.{Front}
 use Rattle.pins.specs.Fronts.{frontOf}
 use Rattle.pins.proofs.Fronts.{entry-room}
-use Rattle.ledger.specs.Values.{codeOf, deadlineOf}
-use Rattle.ledger.proofs.Deadlines.{reaches, sound, same-deadline}
+use Rattle.ledger.specs.Values.{ledgerOf, levelIn, codeOf, deadlineOf}
+use Rattle.ledger.proofs.Deadlines.{same-deadline}
 use Rattle.bank.specs.declared.Banks.{Banks}
 use Rattle.bank.specs.declared.Bus.{Bus}
 use Rattle.bank.specs.declared.Four.{Four}
 use Rattle.bank.specs.declared.Record.{Record}
-use Rattle.step.specs.Values.{entryOf, recordWith}
+use Rattle.step.specs.Values.{recordWith}
 use Rattle.step.specs.declared.waits.Waits.{Waits}
 use Rattle.step.specs.Ready.{Hot, Nop, Act, Rd, Wr, Pre, Cold, laneOf, waitsOf, hotOf, readyBy, standsOf, readyOf}
 use Rattle.step.specs.Runs.{commandsBy, ran, behind}
 use Rattle.step.specs.Quick.{goesOn, quickOf, hotCount, nowOf, EndArgs}
 use Rattle.step.proofs.Onward.{behind-twice, behind-none}
-use Rattle.step.proofs.Cleared.{not-so}
+use Rattle.step.proofs.Standing.{not-so, Stands, stands-so}
 use Rattle.step.proofs.Places.{banksThen, busThen, fourThen, refpb-kept, taken-so}
 use Rattle.step.proofs.Begun.{Going}
 
@@ -51,7 +54,7 @@ pub record Saw (d : Delays) (rec : Record) (v : List ℕ) (most : ℕ) (banks : 
   pub kind : hot ≡ hotOf (decode (f .pins))
   pub bank : b ≡ bankOn (f .pins)
   pub waits : w ≡ waitsOf d rec
-  pub deadline : end ≡ deadlineOf (rec .card) (rec .ledger)
+  pub deadline : end ≡ deadlineOf (rec .card) (rec .share .ledger)
   pub ready : clear ≡ readyBy hot (laneOf (nowOf rec banks bus four u) b) w d bus (banks .act .at) (getD (four .at) 3 0) (f .stamp)
   pub passes : ok ≡ (f .whole && ((ltb u (f .stamp) && ltb (f .stamp) end) && clear))
 
@@ -64,14 +67,18 @@ module _ {d : Delays} {rec : Record} {v : List ℕ} {most : ℕ} {banks : Banks}
   abbrev g : Going d rec v most banks bus four u used nops left
   g = s .going
 
+  stands : Stands rec
+  stands = stands-so rec (g .stood)
+
   stands-now : standsOf now ≡ true
   unfolding standsOf codeOf ledgerTo
-  stands-now = eq-eqb u u refl
+  stands-now =
+      let before = ledgerOf (rec .share .ledger) in
+      let wakes : before .level ≡ awake = unfold ledgerOf in stands .wakes in
+      rw (eq-eqb u u refl, le-leb (u - (numberOf before + countedTo before u)) u (omega arith), wakes) (unfold levelIn levelOf sameLevel depth in refl)
 
-  same-end : deadlineOf (rec .card) (now .ledger) ≡ deadlineOf (rec .card) (rec .ledger)
-  same-end =
-      let good = sound (rec .card) (rec .ledger) u (g .ends .later) (g .ends .early) in
-      rw (reaches (rec .card) (rec .ledger) u (good .positive) (g .ends .later)) (same-deadline (rec .card) (rec .ledger) u (g .ends .later) (g .ends .early))
+  same-end : deadlineOf (rec .card) (now .share .ledger) ≡ deadlineOf (rec .card) (rec .share .ledger)
+  same-end = same-deadline (rec .card) (rec .share .ledger) u (g .ends .later) (g .ends .early)
 
   goes : goesOn d now f ≡ ok
   unfolding goesOn readyOf
@@ -81,7 +88,7 @@ module _ {d : Delays} {rec : Record} {v : List ℕ} {most : ℕ} {banks : Banks}
       rw (stands-now, same-end, s .passes, s .deadline, c)
 
   from-here : (n : ℕ) → quickOf (suc n) d now (drop used v) ≡
-      cond ok (behind 10 (commandsBy now (entryOf (f .stamp) (f .pins))) 0 (quickOf n d (recordWith now (entryOf (f .stamp) (f .pins))) (drop 10 (drop used v)))) (ran now 0 0 0)
+      cond ok (behind 10 (commandsBy now (entry (f .stamp) (f .pins))) 0 (quickOf n d (recordWith now (entry (f .stamp) (f .pins))) (drop 10 (drop used v)))) (ran now 0 0 0)
   unfolding quickOf
   from-here n = rw (← s .front, goes)
 
@@ -122,15 +129,14 @@ module _ {d : Delays} {rec : Record} {v : List ℕ} {most : ℕ} {banks : Banks}
     not-cold e = not-so (sym (rw (s .kind, e) at s .ready) ∙ parts .3)
 
     pub went : (h : Hot) → hot ≡ h → (a : Bool) → apOn (f .pins) ≡ a → (nops′ : ℕ) → nops′ + hotCount h ≡ nops + 1
-        → (banks′ : Banks) → banks′ ≡ banksThen h b a (f .stamp) (rec .mr2) banks
-        → (bus′ : Bus) → bus′ ≡ busThen h (f .stamp) (rec .mr2) bus
+        → (banks′ : Banks) → banks′ ≡ banksThen h b a (f .stamp) (rec .share .mr2) banks
+        → (bus′ : Bus) → bus′ ≡ busThen h (f .stamp) (rec .share .mr2) bus
         → (four′ : Four) → four′ ≡ fourThen h (f .stamp) four
         → Going d rec v most banks′ bus′ four′ (f .stamp) (used + 10) nops′ (left - 1)
     went h k a l nops′ ks banks′ bs bus′ us four′ rs =
         let t = f .stamp in
-        let e = entryOf t (f .pins) in
-        let good = sound (rec .card) (rec .ledger) u (g .ends .later) (g .ends .early) in
-        let taken = taken-so rec banks bus four u t (f .pins) (good .positive) (g .ends .later) (le-of-lt above) not-cold in
+        let e = entry t (f .pins) in
+        let taken = taken-so rec banks bus four u t (f .pins) stands (g .ends) (le-of-lt above) not-cold in
         let r : nowOf rec banks′ bus′ four′ t ≡ recordWith now e = rw (bs, us, rs, ← k, ← l, s .kind, s .bank) (sym (taken .0)) in
         let c : hotCount h ≡ commandsBy now e = rw (← k, s .kind) (sym (taken .1)) in
         let more-commands : used / 10 - nops + hotCount h ≡ (used + 10) / 10 - nops′ = omega (arith, g .few, ks, count-low h) in
@@ -140,7 +146,8 @@ module _ {d : Delays} {rec : Record} {v : List ℕ} {most : ℕ} {banks : Banks}
         ap (λ (k : ℕ). quickOf k d now (drop used v)) n ∙ from-here (left - 1) ∙ rw (not-false ok yes, ← r, ← c, drop-drop 10 used v) in
         record {
           same = g .same ∙ ap (behind used commands 0) y ∙ behind-twice used commands 0 10 (hotCount h) 0 x ∙ ap (λ (m : ℕ). behind (used + 10) m 0 x) more-commands;
-          kept = ap (λ (y : Banks). y .refpb) bs ∙ refpb-kept h b a t (rec .mr2) banks ∙ g .kept;
+          kept = ap (λ (y : Banks). y .refpb) bs ∙ refpb-kept h b a t (rec .share .mr2) banks ∙ g .kept;
+          stood = g .stood;
           ends = ends-there;
           within = room;
           few = omega (arith, g .few, ks);

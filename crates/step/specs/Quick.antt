@@ -3,7 +3,7 @@ use Prim.Native.Nat.{ℕ, zero, suc, _≤_, _<_}
 use mathlib.Core.Bool.{Bool, cond, _&&_}
 use mathlib.Core.List.{List}
 use lib.ListN.{drop}
-use Rattle.rules.specs.Units.{interval}
+use Rattle.rules.specs.Clock.{beatOf}
 use Rattle.rules.specs.Lent.{ledgerTo}
 use Rattle.card.specs.Values.{cardOf}
 use Rattle.card.specs.declared.Delays.{Delays}
@@ -43,17 +43,20 @@ hotCount Cold = 1
 abbrev pub nowOf : Record → Banks → Bus → Four → (last : ℕ) → Record
 nowOf rec banks bus four t = record {
   card = rec .card;
-  mr2 = rec .mr2;
-  counter = rec .counter;
   last = onceAt t;
-  latest = rec .latest;
-  bus = bus;
-  four = four;
-  banks = banks;
-  ledger = codeOf (ledgerTo (interval (cardOf (rec .card))) (ledgerOf (rec .ledger)) t);
+  share = record {
+    mr2 = rec .share .mr2;
+    counter = rec .share .counter;
+    latest = rec .share .latest;
+    moves = rec .share .moves;
+    bus = bus;
+    four = four;
+    banks = banks;
+    ledger = codeOf (ledgerTo (beatOf (cardOf (rec .card))) (ledgerOf (rec .share .ledger)) t);
+  };
 }
 
 -- the last entry is one that the ledger reaches
 pub record EndArgs (rec : Record) (t : ℕ) : Type 0 where
-  pub later : rec .ledger .at ≤ t
-  pub early : t < deadlineOf (rec .card) (rec .ledger)
+  pub later : rec .share .ledger .at ≤ t
+  pub early : t < deadlineOf (rec .card) (rec .share .ledger)

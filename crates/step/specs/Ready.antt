@@ -8,10 +8,14 @@ use lib.ListN.{getD}
 use Rattle.rules.specs.Commands as rules
 use Rattle.rules.specs.Pins.{Decoded, good, wrongBits, reserved, decode}
 use Rattle.rules.specs.Registers.{rlOf, wlOf}
+use Rattle.rules.specs.Levels.{awake, sameLevel}
 use Rattle.card.specs.declared.Delays.{Delays}
+use Rattle.pins.specs.Values.{levelOf}
 use Rattle.pins.specs.Places.{bankOn}
 use Rattle.ledger.specs.Values.{deadlineOf}
 use Rattle.bank.specs.declared.Bus.{Bus}
+use Rattle.bank.specs.declared.Latest.{Latest}
+use Rattle.bank.specs.declared.Moves.{Moves}
 use Rattle.bank.specs.declared.Record.{Record}
 use Rattle.step.specs.declared.cycles.Lane.{Lane}
 use Rattle.step.specs.declared.waits.Waits.{Waits}
@@ -47,33 +51,41 @@ abbrev pub topOf : List ℕ → ℕ
 topOf a = max (max4 (getD a 0 0) (getD a 1 0) (getD a 2 0) (getD a 3 0)) (max4 (getD a 4 0) (getD a 5 0) (getD a 6 0) (getD a 7 0))
 
 -- rules 1, 2 and 3
-abbrev pub wholeOf : Delays → Record → ℕ
-wholeOf d rec = max (max (rec .latest .mrw .at + d .tmrw) (rec .latest .mrr .at + d .tmrr)) (rec .latest .refab .at + d .trfcab)
+abbrev pub restedOf : Delays → Latest → ℕ
+restedOf d x = max (max (x .mrw .at + d .tmrw) (x .mrr .at + d .tmrr)) (x .refab .at + d .trfcab)
 
--- RL and WL by the present MR2; with the first three rules 6, and 10 after REFpb
+-- rules 22 and 24
+abbrev pub wokenOf : Delays → Moves → ℕ
+wokenOf d x = max (x .«power_exit» .at + d .txp) (x .«self_exit» .at + d .txsr)
+
+-- the rules that every command but NOP has
+abbrev pub wholeOf : Delays → Record → ℕ
+wholeOf d rec = max (restedOf d (rec .share .latest)) (wokenOf d (rec .share .moves))
+
+-- RL and WL by the present MR2; with those rules 6, and 10 after REFpb
 abbrev pub waitsOf : Delays → Record → Waits
 waitsOf d rec = record {
-  mr2 = rec .mr2;
-  rl = rlOf (rec .mr2);
-  wl = wlOf (rec .mr2);
+  mr2 = rec .share .mr2;
+  rl = rlOf (rec .share .mr2);
+  wl = wlOf (rec .share .mr2);
   whole = wholeOf d rec;
-  idle = max (wholeOf d rec) (max (rec .latest .prea .at + d .trpab) (topOf (rec .banks .refpb .at) + d .trrd));
+  idle = max (wholeOf d rec) (max (rec .share .latest .prea .at + d .trpab) (topOf (rec .share .banks .refpb .at) + d .trrd));
 }
 
 -- ---- the delay rules
 -- what the record holds for a bank
 abbrev pub laneOf : Record → ℕ → Lane
 laneOf rec b = record {
-  opened = getD (rec .banks .opened) b false;
-  refpb = getD (rec .banks .refpb .at) b 0;
-  pre = getD (rec .banks .pre .at) b 0;
-  act = getD (rec .banks .act .at) b 0;
-  rd = getD (rec .banks .rd .at) b 0;
-  rda = getD (rec .banks .rda .at) b 0;
-  wr = getD (rec .banks .wr .at) b 0;
-  «wr_mr2» = getD (rec .banks .wr .mr2) b 0;
-  wra = getD (rec .banks .wra .at) b 0;
-  «wra_mr2» = getD (rec .banks .wra .mr2) b 0;
+  opened = getD (rec .share .banks .opened) b false;
+  refpb = getD (rec .share .banks .refpb .at) b 0;
+  pre = getD (rec .share .banks .pre .at) b 0;
+  act = getD (rec .share .banks .act .at) b 0;
+  rd = getD (rec .share .banks .rd .at) b 0;
+  rda = getD (rec .share .banks .rda .at) b 0;
+  wr = getD (rec .share .banks .wr .at) b 0;
+  «wr_mr2» = getD (rec .share .banks .wr .mr2) b 0;
+  wra = getD (rec .share .banks .wra .at) b 0;
+  «wra_mr2» = getD (rec .share .banks .wra .mr2) b 0;
 }
 
 -- enough for every MR2, where another one than the present was noted
@@ -116,12 +128,14 @@ readyBy Pre l w d bus acts fourth t = leb (preCycle l w d) t
 readyBy Cold l w d bus acts fourth t = false
 
 -- ---- all of it
--- the ledger stands at the last entry
+-- the part is awake; the ledger stands at the last entry, and has skipped no more cycles than there were
 unfoldable pub standsOf : Record → Bool
-standsOf rec = rec .last .seen && eqb (rec .ledger .at) (rec .last .at)
+standsOf rec =
+    let g = rec .share .ledger in
+    rec .last .seen && eqb (g .at) (rec .last .at) && leb (g .skipped) (g .at) && sameLevel awake (levelOf (g .level))
 
 unfoldable pub readyOf : Delays → Record → (stamp pins : ℕ) → Bool
 readyOf d rec t p =
     standsOf rec &&
-    (ltb (rec .last .at) t && ltb t (deadlineOf (rec .card) (rec .ledger))) &&
-    readyBy (hotOf (decode p)) (laneOf rec (bankOn p)) (waitsOf d rec) d (rec .bus) (rec .banks .act .at) (getD (rec .four .at) 3 0) t
+    (ltb (rec .last .at) t && ltb t (deadlineOf (rec .card) (rec .share .ledger))) &&
+    readyBy (hotOf (decode p)) (laneOf rec (bankOn p)) (waitsOf d rec) d (rec .share .bus) (rec .share .banks .act .at) (getD (rec .share .four .at) 3 0) t

@@ -4,17 +4,17 @@ use mathlib.Core.Bool.{Bool, cond, _&&_}
 use mathlib.Core.List.{List}
 use lib.ListN.{drop}
 use Rattle.rules.specs.Commands.{NOP, is}
-use Rattle.rules.specs.Entries.{Entry}
-use Rattle.rules.specs.Lent.{commandIn, countedIn, stepRefusal}
+use Rattle.rules.specs.Entries.{Entry, entry}
+use Rattle.rules.specs.Lent.{commandIn, effectIn, stepRefusal}
 use Rattle.pins.specs.Fronts.{frontOf}
 use Rattle.ledger.specs.Values.{isNone}
 use Rattle.bank.specs.Values.{lentOf}
 use Rattle.bank.specs.declared.Record.{Record}
 use Rattle.step.specs.declared.Ran.{Ran}
-use Rattle.step.specs.Values.{entryOf, recordWith}
+use Rattle.step.specs.Values.{recordWith}
 
 abbrev pub entryAt : List ℕ → Entry
-entryAt bs = entryOf (frontOf bs .stamp) (frontOf bs .pins)
+entryAt bs = entry (frontOf bs .stamp) (frontOf bs .pins)
 
 -- an entry stands at the start of these bytes, and is taken. A record that 13 refuses takes none
 unfoldable pub takes : Record → List ℕ → Bool
@@ -25,7 +25,7 @@ unfoldable pub commandsBy : Record → Entry → ℕ
 commandsBy rec e = cond (is NOP (commandIn (lentOf rec) e)) 0 1
 
 unfoldable pub refreshesBy : Record → Entry → ℕ
-refreshesBy rec e = cond (countedIn (lentOf rec) e) 1 0
+refreshesBy rec e = cond (effectIn (lentOf rec) e .counted) 1 0
 
 abbrev pub ran : Record → (used commands refreshes : ℕ) → Ran
 ran rec used commands refreshes = record { rec = rec; used = used; commands = commands; refreshes = refreshes }

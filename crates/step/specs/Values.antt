@@ -1,20 +1,19 @@
 -- What a step tells and leaves, read as the values of the rules.
-use Prim.Native.Nat.{ℕ}
 use mathlib.Core.Path.{_≡_}
 use mathlib.Core.Bool.{true}
 use mathlib.Core.Option.{Option, none, some}
 use Rattle.rules.specs.Entries.{Entry}
 use Rattle.rules.specs.Checks.{Refusal, refusal}
-use Rattle.rules.specs.Lent.{commandIn, ledgerWith, lentGood, lentAfter}
+use Rattle.rules.specs.Lent.{commandIn, moveIn, ledgerWith, lentGood, lentAfter}
 use Rattle.ledger.specs.Values.{ledgerOf, codeOf, unlessRefused}
 use Rattle.bank.specs.declared.Record.{Record}
 use Rattle.bank.specs.Values.{lentOf}
 use Rattle.bank.specs.After.{recordAfter}
 use Rattle.step.specs.declared.Answer.{Answer}
-use Rattle.step.specs.declared.Answer.the-variants.{Taken, BadRecord, Early, Overdue, WrongBits, Reserved, State, Value, TooSoon}
+use Rattle.step.specs.declared.Answer.the-variants.{Taken, BadRecord, Early, Overdue, WrongBits, Reserved, State, Barred, Value, TooSoon}
 use Rattle.step.specs.declared.Stepped.{Stepped}
 
--- document 01's numbers of each case
+-- the documents' numbers of each case
 unfoldable pub refusalOf : Answer → Option Refusal
 refusalOf Taken = none
 refusalOf BadRecord = some (refusal 13 0 0)
@@ -23,22 +22,20 @@ refusalOf (Overdue q t) = some (refusal 11 q t)
 refusalOf WrongBits = some (refusal 6 0 0)
 refusalOf Reserved = some (refusal 7 0 0)
 refusalOf State = some (refusal 8 0 0)
+refusalOf Barred = some (refusal 16 0 0)
 refusalOf Value = some (refusal 9 0 0)
 refusalOf (TooSoon q t) = some (refusal 10 q t)
 
 abbrev pub steppedAs : Record → Answer → Stepped
 steppedAs rec a = record { rec = rec; answer = a }
 
-abbrev pub entryOf : (stamp pins : ℕ) → Entry
-entryOf t p = record { stamp = t; pins = p }
-
 -- the record after an entry that is taken, to the bit
 unfoldable pub recordWith : Record → Entry → Record
-recordWith rec e = recordAfter rec (commandIn (lentOf rec) e) (e .stamp) (codeOf (ledgerWith (lentOf rec) e))
+recordWith rec e = recordAfter rec (commandIn (lentOf rec) e) (moveIn (lentOf rec) e) (e .stamp) (codeOf (ledgerWith (lentOf rec) e))
 
 -- this refusal, or none, is told; the record then is the one after the entry, or on a refusal the old one, to the bit; and what it is to the rules
 pub record Left (o : Option Refusal) (rec : Record) (e : Entry) (r : Stepped) : Type 0 where
   pub told : refusalOf (r .answer) ≡ o
-  pub is : r .rec ≡ unlessRefused o rec (recordAfter rec (commandIn (lentOf rec) e) (e .stamp) (r .rec .ledger))
-  pub ledger : ledgerOf (r .rec .ledger) ≡ unlessRefused o (ledgerOf (rec .ledger)) (ledgerWith (lentOf rec) e)
+  pub is : r .rec ≡ unlessRefused o rec (recordAfter rec (commandIn (lentOf rec) e) (moveIn (lentOf rec) e) (e .stamp) (r .rec .share .ledger))
+  pub ledger : ledgerOf (r .rec .share .ledger) ≡ unlessRefused o (ledgerOf (rec .share .ledger)) (ledgerWith (lentOf rec) e)
   pub lent : lentGood (lentOf rec) ≡ true → lentOf (r .rec) ≡ unlessRefused o (lentOf rec) (lentAfter (lentOf rec) e)

@@ -2,8 +2,9 @@
 ghost use mathlib.Core.Path.{_≡_};
 ghost use Rattle.rules.specs.Past.{isCounted};
 ghost use Rattle.rules.specs.Lent.{aboveLast};
+ghost use Rattle.rules.specs.Lent as lent;
 ghost use Rattle.card.specs.Values.{cardOf};
-ghost use Rattle.pins.specs.Values.{commandOf};
+ghost use Rattle.pins.specs.Values.{commandOf, levelOf, readOf};
 ghost use Rattle.ledger.specs.Values as paid;
 ghost use Rattle.bank.specs.Values.{lastOf};
 ghost use Rattle.step.specs.Values.{refusalOf};
@@ -11,8 +12,11 @@ ghost use Rattle.step.specs.Parts.{AccountAt, openingOf};
 use crate::Answer;
 use bank::Once;
 use card::Card;
+use ledger::Effect;
 use ledger::Ledger;
 use pins::Command;
+use pins::Level;
+use pins::Read;
 
 // 13 of the ledger, 5 and 11 below the stamp; then, where none of them is given, 11 at the stamp; and the ledger there.
 pub struct Account {
@@ -38,6 +42,16 @@ pub fn counts(command: Command, counter: u8) -> bool
         Command::Refab => true,
         Command::Refpb => counter == 7,
         _ => false,
+    }
+}
+
+// What an entry does to the ledger.
+pub fn effect_of(read: Read, counter: u8, level: Level) -> Effect
+    ensures { λ r. ⌜ paid.effectOf r ≡ lent.effectOf (readOf read) counter (levelOf level) ⌝ }
+{
+    Effect {
+        counted: counts(pins::recorded(read), counter),
+        level: pins::level_after(pins::move_of(read), level),
     }
 }
 
@@ -84,10 +98,10 @@ pub fn as_told(told: ledger::Answer) -> Answer
     }
 }
 
-pub fn account_at(card: Card, last: Once, ledger: Ledger, stamp: u32, counted: bool) -> Account
-    ensures { λ r. ⌜ AccountAt counted (cardOf card) (lastOf last) (paid.ledgerOf ledger) stamp r ⌝ }
+pub fn account_at(card: Card, last: Once, ledger: Ledger, stamp: u32, effect: Effect) -> Account
+    ensures { λ r. ⌜ AccountAt (paid.effectOf effect) (cardOf card) (lastOf last) (paid.ledgerOf ledger) stamp r ⌝ }
 {
-    let after = ledger::entered(ledger, card, stamp, counted);
+    let after = ledger::entered(ledger, card, stamp, effect);
     let told = after.answer;
     let there = after.ledger;
     Account {

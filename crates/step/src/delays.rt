@@ -5,7 +5,7 @@ ghost use Rattle.rules.specs.Folds.{firstBroken};
 ghost use Rattle.rules.specs.Delays.{delayRules};
 ghost use Rattle.rules.specs.Lent.{lookIn};
 ghost use Rattle.card.specs.Values.{clocksOf};
-ghost use Rattle.pins.specs.Values.{commandOf};
+ghost use Rattle.pins.specs.Values.{commandOf, movedOf};
 ghost use Rattle.bank.specs.Values.{lentOf};
 ghost use Rattle.step.specs.Values.{refusalOf};
 use crate::Answer;
@@ -13,11 +13,12 @@ use bank::Record;
 use bounds::Broken;
 use card::Delays;
 use pins::Command;
+use pins::Move;
 
-pub fn delayed(rec: Record, delays: Delays, command: Command, stamp: u32) -> Answer
-    ensures { λ r. ⌜ refusalOf r ≡ named 10 (firstBroken (lookIn (lentOf rec .history)) (delayRules (clocksOf delays) (commandOf command) (rec .counter)) stamp) ⌝ }
+pub fn delayed(rec: Record, delays: Delays, command: Command, moved: Move, stamp: u32) -> Answer
+    ensures { λ r. ⌜ refusalOf r ≡ named 10 (firstBroken (lookIn (lentOf rec .share .history)) (delayRules (clocksOf delays) (commandOf command) (movedOf moved) (rec .share .counter)) stamp) ⌝ }
 {
-    match bounds::first_broken(rec, delays, command, stamp) {
+    match bounds::first_broken(rec, delays, command, moved, stamp) {
         Broken::Nothing => Answer::Taken,
         Broken::Rule { rule, cycle } => Answer::TooSoon {
             rule: rule,

@@ -1,4 +1,4 @@
-// An entry offered to a record: 13, 5, 11 below its stamp, 6, 7, 8, 9, 10, 11 at its stamp; and the record then. A run of entries, up to the first that is refused.
+// An entry offered to a record: 13, 5, 11 below its stamp, 6, 7, 8, 16, 9, 10, 11 at its stamp; and the record then. A run of entries, up to the first that is refused.
 mod account;
 mod cycles;
 mod delays;
@@ -23,6 +23,7 @@ pub enum Answer {
     WrongBits,
     Reserved,
     State,
+    Barred,
     Value,
     TooSoon { rule: u8, cycle: u64 },
 }

@@ -1,30 +1,19 @@
-// The pins, the bank state and the value: 6 to 9.
+// The pins, the bank state, what is permitted at the level, and the value: 6, 7, 8, 16, 9.
 ghost use mathlib.Core.Path.{_≡_};
 ghost use mathlib.Core.Bool.{false};
 ghost use lib.ListN.{getD};
 ghost use Rattle.rules.specs.States.{allClosed, stateGood};
 ghost use Rattle.rules.specs.Checks.{valueGood};
-ghost use Rattle.rules.specs.Pins.{good};
-ghost use Rattle.rules.specs.Entries as entries;
+ghost use Rattle.rules.specs.Levels.{plain};
 ghost use Rattle.card.specs.Values.{cardOf};
-ghost use Rattle.pins.specs.Values.{commandOf, decodedOf};
+ghost use Rattle.pins.specs.Values.{commandOf, decodedOf, readOf};
 ghost use Rattle.step.specs.Values.{refusalOf};
-ghost use Rattle.step.specs.Parts.{readingRefusal};
+ghost use Rattle.step.specs.Parts.{commandRefusal, readingRefusal};
 use crate::Answer;
 use card::Card;
 use pins::Command;
 use pins::Decoded;
-
-// Pins that are no command are taken for NOP.
-pub fn command_of(decoded: Decoded) -> Command
-    ensures { λ r. ⌜ commandOf r ≡ entries.commandOf (decodedOf decoded) ⌝ }
-{
-    match decoded {
-        Decoded::Good(command) => command,
-        Decoded::WrongBits => Command::Nop,
-        Decoded::Reserved => Command::Nop,
-    }
-}
+use pins::Read;
 
 // A bank above 7 is not open.
 fn is_open(opened: [bool; 8], bank: u8) -> bool
@@ -77,7 +66,7 @@ fn value_good(card: Card, command: Command) -> bool
 
 // 8, then 9.
 fn command_refused(card: Card, opened: [bool; 8], counter: u8, command: Command) -> Answer
-    ensures { λ r. ⌜ refusalOf r ≡ readingRefusal (cardOf card) (λ b. getD opened b false) counter (good (commandOf command)) ⌝ }
+    ensures { λ r. ⌜ refusalOf r ≡ commandRefusal (cardOf card) (λ b. getD opened b false) counter (commandOf command) ⌝ }
 {
     if !state_good(opened, counter, command) {
         return Answer::State;
@@ -88,12 +77,23 @@ fn command_refused(card: Card, opened: [bool; 8], counter: u8, command: Command)
     Answer::Taken
 }
 
-pub fn reading(card: Card, opened: [bool; 8], counter: u8, decoded: Decoded) -> Answer
-    ensures { λ r. ⌜ refusalOf r ≡ readingRefusal (cardOf card) (λ b. getD opened b false) counter (decodedOf decoded) ⌝ }
+fn pins_refused(card: Card, opened: [bool; 8], counter: u8, decoded: Decoded) -> Answer
+    ensures { λ r. ⌜ refusalOf r ≡ readingRefusal (cardOf card) (λ b. getD opened b false) counter (plain (decodedOf decoded)) ⌝ }
 {
     match decoded {
         Decoded::WrongBits => Answer::WrongBits,
         Decoded::Reserved => Answer::Reserved,
         Decoded::Good(command) => command_refused(card, opened, counter, command),
+    }
+}
+
+pub fn reading(card: Card, opened: [bool; 8], counter: u8, read: Read) -> Answer
+    ensures { λ r. ⌜ refusalOf r ≡ readingRefusal (cardOf card) (λ b. getD opened b false) counter (readOf read) ⌝ }
+{
+    match read {
+        Read::Plain(decoded) => pins_refused(card, opened, counter, decoded),
+        Read::Moved(_) => command_refused(card, opened, counter, pins::judged(read)),
+        Read::Asleep => Answer::Taken,
+        Read::Barred => Answer::Barred,
     }
 }

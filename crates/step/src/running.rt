@@ -19,14 +19,22 @@ use bank::Four;
 use bank::Noted;
 use bank::Once;
 use bank::Record;
+use bank::Share;
 use card::Delays;
 use pins::Front;
 
-// Whether it may begin: the ledger stands at the last entry, and before its deadline.
+// Whether it may begin: the part is awake, and the ledger stands at the last entry, before its deadline, and has skipped no more cycles than there were.
 fn stands(rec: Record, end: u64) -> bool
     ensures { λ r. ⌜ r ≡ (standsOf rec && ltb (rec .last .at) end) ⌝ }
 {
-    rec.last.seen & (rec.ledger.at == rec.last.at) & ((rec.last.at as u64) < end)
+    let ledger = rec.share.ledger;
+    let level = ledger.level;
+    let awake = pins::is_awake(level);
+    rec.last.seen
+        & (ledger.at == rec.last.at)
+        & (ledger.skipped <= ledger.at)
+        & awake
+        & ((rec.last.at as u64) < end)
 }
 
 fn passes(front: Front, last: u32, end: u64, ready: bool) -> bool
@@ -50,23 +58,27 @@ fn ended(
     ensures { λ r. ⌜ r ≡ ran (nowOf rec banks bus four last) used (used / 10 - nops) 0 ⌝ }
 {
     let card = rec.card;
-    let latest = rec.latest;
-    let moved = ledger::moved(rec.ledger, card, last);
+    let latest = rec.share.latest;
+    let moves = rec.share.moves;
+    let moved = ledger::moved(rec.share.ledger, card, last);
     let there = moved.ledger;
     Ran {
         rec: Record {
             card: card,
-            mr2: rec.mr2,
-            counter: rec.counter,
             last: Once {
                 seen: true,
                 at: last,
             },
-            latest: latest,
-            bus: bus,
-            four: four,
-            banks: banks,
-            ledger: there,
+            share: Share {
+                mr2: rec.share.mr2,
+                counter: rec.share.counter,
+                latest: latest,
+                moves: moves,
+                bus: bus,
+                four: four,
+                banks: banks,
+                ledger: there,
+            },
         },
         used: used,
         commands: (used / 10 - nops) as u64,
@@ -78,7 +90,7 @@ fn ended(
 pub fn quick_run(rec: Record, delays: Delays, bytes: &[u8], most: usize) -> Ran
     ensures { λ r. ⌜ r ≡ quickOf most delays rec (now (bytes .entry)) ⌝ }
 {
-    let end = ledger::deadline(rec.ledger, rec.card);
+    let end = ledger::deadline(rec.share.ledger, rec.card);
     if !stands(rec, end) {
         return Ran {
             rec: rec,
@@ -88,8 +100,8 @@ pub fn quick_run(rec: Record, delays: Delays, bytes: &[u8], most: usize) -> Ran
         };
     }
     let waits = waits_of(rec, delays);
-    let mr2 = rec.mr2;
-    let banks = rec.banks;
+    let mr2 = rec.share.mr2;
+    let banks = rec.share.banks;
     let refpb = banks.refpb;
     let mut opened = banks.opened;
     let mut pre = banks.pre;
@@ -98,8 +110,8 @@ pub fn quick_run(rec: Record, delays: Delays, bytes: &[u8], most: usize) -> Ran
     let mut rda = banks.rda;
     let mut wr = banks.wr;
     let mut wra = banks.wra;
-    let mut bus = rec.bus;
-    let mut four = rec.four;
+    let mut bus = rec.share.bus;
+    let mut four = rec.share.four;
     let mut last = rec.last.at;
     let mut used: usize = 0;
     let mut nops: usize = 0;

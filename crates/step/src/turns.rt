@@ -11,7 +11,6 @@ use crate::Ran;
 use crate::account::counts;
 use crate::offering::ruled;
 use crate::offering::taken;
-use crate::reading::command_of;
 use crate::running::quick_run;
 use bank::Record;
 use card::Delays;
@@ -69,18 +68,21 @@ fn by_table(rec: Record, delays: Delays, bytes: &[u8], at: usize) -> Ran
     if !front.whole {
         return nothing(rec);
     }
-    let decoded = pins::decode(front.pins);
-    let command = command_of(decoded);
-    let ruling = ruled(rec, delays, decoded, front.stamp);
+    let ledger = rec.share.ledger;
+    let level = ledger.level;
+    let read = pins::read_pins(rec.card.sleeps, level, front.pins);
+    let ruling = ruled(rec, delays, read, front.stamp);
     let answer = ruling.answer;
     if !taken(answer) {
         return nothing(rec);
     }
+    let command = pins::recorded(read);
+    let moved = pins::move_of(read);
     Ran {
-        rec: bank::after(rec, front.stamp, command, ruling.ledger),
+        rec: bank::after(rec, front.stamp, command, moved, ruling.ledger),
         used: 10,
         commands: commands_by(command),
-        refreshes: refreshes_by(command, rec.counter),
+        refreshes: refreshes_by(command, rec.share.counter),
     }
 }
 

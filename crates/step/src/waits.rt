@@ -1,12 +1,14 @@
 // What a quick run does not change, worked out once.
 ghost use mathlib.Core.Path.{_≡_};
 ghost use Prim.Native.Nat.{_+_, max};
-ghost use Rattle.step.specs.Ready.{topOf, wholeOf, waitsOf};
+ghost use Rattle.step.specs.Ready.{topOf, restedOf, wokenOf, wholeOf, waitsOf};
+use bank::Latest;
+use bank::Moves;
 use bank::Record;
 use card::Delays;
 use card::greater;
 
-// RL and WL by the present MR2; the first cycle by rules 1, 2 and 3; and with 6, and 10 after REFpb.
+// RL and WL by the present MR2; the first cycle by rules 1, 2, 3, 22 and 24; and with 6, and 10 after REFpb.
 pub struct Waits {
     pub mr2: u8,
     pub rl: u8,
@@ -36,24 +38,38 @@ pub fn top(a: [u32; 8]) -> u32
     )
 }
 
+// Rules 22 and 24.
+fn woken(moves: Moves, d: Delays) -> u64
+    ensures { λ r. ⌜ r ≡ wokenOf d moves ⌝ }
+{
+    greater(
+        after(moves.power_exit.at, d.txp),
+        after(moves.self_exit.at, d.txsr),
+    )
+}
+
+// Rules 1, 2 and 3.
+fn rested(latest: Latest, d: Delays) -> u64
+    ensures { λ r. ⌜ r ≡ restedOf d latest ⌝ }
+{
+    greater(
+        greater(after(latest.mrw.at, d.tmrw), after(latest.mrr.at, d.tmrr)),
+        after(latest.refab.at, d.trfcab),
+    )
+}
+
 fn whole(rec: Record, d: Delays) -> u64
     ensures { λ r. ⌜ r ≡ wholeOf d rec ⌝ }
 {
-    greater(
-        greater(
-            after(rec.latest.mrw.at, d.tmrw),
-            after(rec.latest.mrr.at, d.tmrr),
-        ),
-        after(rec.latest.refab.at, d.trfcab),
-    )
+    greater(rested(rec.share.latest, d), woken(rec.share.moves, d))
 }
 
 pub fn waits_of(rec: Record, d: Delays) -> Waits
     ensures { λ r. ⌜ r ≡ waitsOf d rec ⌝ }
 {
-    let mr2 = rec.mr2;
+    let mr2 = rec.share.mr2;
     let latency = card::latency_of(mr2);
-    let refpb = rec.banks.refpb;
+    let refpb = rec.share.banks.refpb;
     let at = refpb.at;
     let all = whole(rec, d);
     Waits {
@@ -63,7 +79,10 @@ pub fn waits_of(rec: Record, d: Delays) -> Waits
         whole: all,
         idle: greater(
             all,
-            greater(after(rec.latest.prea.at, d.trpab), after(top(at), d.trrd)),
+            greater(
+                after(rec.share.latest.prea.at, d.trpab),
+                after(top(at), d.trrd),
+            ),
         ),
     }
 }

@@ -14,7 +14,7 @@ use Rattle.chunks.specs.declared.What.{What}
 use Rattle.chunks.specs.declared.What.the-variants.{More, Full, Over}
 use Rattle.chunks.specs.declared.fields.Move.the-variants.{Wait}
 use Rattle.chunks.specs.Values.{verdictOf}
-use Rattle.chunks.specs.Took.{headTook, asRead, tookOf}
+use Rattle.chunks.specs.Took.{headTook, headAt, tookOf}
 use Rattle.chunks.specs.Heard.{startOf, Heard, behind, heardOf, finishedOf}
 use Rattle.chunks.proofs.Walks.{Walk, stops-full, stops-more, stops-over, takes, walk}
 use Rattle.judge.proofs.Chunks.{Run, begin, bytes, call}
@@ -54,7 +54,7 @@ over-prints false room r v x file b (ys, e) = rw e (chunks-over-lines r room v x
 
 -- ---- before the first byte
 first-waits : tookOf startOf [] .how ≡ Wait
-unfolding tookOf startOf asRead headTook headOf
+unfolding tookOf startOf headAt headTook headOf
 first-waits = refl
 
 pub first-fits : {at : Turn} → at ≡ firstTurn → (size : ℕ) → 0 < size → Fits at size

@@ -40,8 +40,7 @@ use denote.Triple.Clauses.{ensured, lasts}
 use denote.Triple.Table.{entered, cited}
 use denote.Triple.Walked.{says, Stays, stay-ref, stay-none, walkOf, AllGo, goes-none, goes-ref, Walks, ends-at, walked, walk-meets}
 use denote.Exit.{yes}
-use Rattle.rules.specs.Lent.{moveRefusal}
-use Rattle.rules.specs.Lent as lent
+use Rattle.rules.specs.Lent.{moveRefusal, movedOn}
 use Rattle.card.specs.Values.{cardOf}
 use Rattle.ledger.specs.Values.{ledgerOf, afterAs, Left}
 use Rattle.ledger.specs.declared.Ledger.{Ledger}
@@ -74,8 +73,8 @@ module _ {M : Type 1} (𝓤 : URA M) (H : Heap 𝓤) (A : Atoms 𝓤) (at-mem : 
   Callee = tripleOf 𝓤 H A callee.signature (callee.spec 𝓤 H A at-mem run)
 
   -- of its `ensured`, the clause alone: it has no `&mut`, so what is said of last values is dropped
-  ensures-of : (h : Ledger) (card : Card) (to : ℕ) (r : After) → ent 𝓤 (ensured 𝓤 H A callee.ended (callee.clauses 𝓤 H A at-mem run) tt (h, (card, (to, tt))) tt r) (fact 𝓤 (Left (moveRefusal (cardOf card) (ledgerOf h) to) (ledgerOf h) (lent.moved (cardOf card) (ledgerOf h) to) (afterAs (r .ledger) (r .answer))))
-  ensures-of h card to r = exE 𝓤 _ (λ ws. snd∗ 𝓤 (sem 𝓤 H A (lasts callee.ended tt (h, (card, (to, tt))) ws)) (fact 𝓤 (Left (moveRefusal (cardOf card) (ledgerOf h) to) (ledgerOf h) (lent.moved (cardOf card) (ledgerOf h) to) (afterAs (r .ledger) (r .answer)))))
+  ensures-of : (h : Ledger) (card : Card) (to : ℕ) (r : After) → ent 𝓤 (ensured 𝓤 H A callee.ended (callee.clauses 𝓤 H A at-mem run) tt (h, (card, (to, tt))) tt r) (fact 𝓤 (Left (moveRefusal (cardOf card) (ledgerOf h) to) (ledgerOf h) (movedOn (cardOf card) (ledgerOf h) to) (afterAs (r .ledger) (r .answer))))
+  ensures-of h card to r = exE 𝓤 _ (λ ws. snd∗ 𝓤 (sem 𝓤 H A (lasts callee.ended tt (h, (card, (to, tt))) ws)) (fact 𝓤 (Left (moveRefusal (cardOf card) (ledgerOf h) to) (ledgerOf h) (movedOn (cardOf card) (ledgerOf h) to) (afterAs (r .ledger) (r .answer)))))
 
 module _ {M : Type 1} (𝓤 : URA M) (H : Heap 𝓤) (A : Atoms 𝓤) (W : Given 𝓤 H A) (at-mem : Memory → SProp 𝓤) (run : Routine → Fun 𝓤) (κ : Lft) (q : Share) (b o : ℕ) (γ : GName) (h : Ledger) (card : Card) (to : ℕ) (card-is : Is Card-m.the-row card (LL.val Card-m.the-type Card-l.the-laws card ∷ [])) (to-is : Is u32 to (vint w32 to ∷ [])) where
   abbrev x : RefT Ledger × (Card × (ℕ × Unit {0}))
@@ -88,7 +87,7 @@ module _ {M : Type 1} (𝓤 : URA M) (H : Heap 𝓤) (A : Atoms 𝓤) (W : Given
   Post = walkOf 𝓤 H A self.ended stayed (self.clauses 𝓤 H A at-mem run) .post (((κ, tt), (q, tt), tt, x, at), tt)
 
   -- the exit: the answer y is returned, and h′ is left behind the borrow
-  exits : (y : Answer) (h′ : Ledger) → Left (moveRefusal (cardOf card) (ledgerOf h) to) (ledgerOf h) (lent.moved (cardOf card) (ledgerOf h) to) (afterAs h′ y) → Is Answer-m.the-row y (EL.val Answer-m.the-type Answer-l.the-laws y ∷ [])
+  exits : (y : Answer) (h′ : Ledger) → Left (moveRefusal (cardOf card) (ledgerOf h) to) (ledgerOf h) (movedOn (cardOf card) (ledgerOf h) to) (afterAs h′ y) → Is Answer-m.the-row y (EL.val Answer-m.the-type Answer-l.the-laws y ∷ [])
       → ent 𝓤 (sep 𝓤 (A .obs γ (Ledger-m.the-row .coded .code h′)) (sep 𝓤 (A .bor κ (Body (mem Ledger-m.the-row) b o γ)) (A .lft κ q))) (Post (EL.val Answer-m.the-type Answer-l.the-laws y))
   exits y h′ e is =
       qed W (‵ (fobs γ (Ledger-m.the-row .coded .code h′)) ∷ ‵ (fbor κ (Body (mem Ledger-m.the-row) b o γ)) ∷ ‵ (flft κ q) ∷ []) ∵
@@ -118,7 +117,7 @@ module _ {M : Type 1} (𝓤 : URA M) (H : Heap 𝓤) (A : Atoms 𝓤) (W : Given
         move ! (1 ∷ []) $ use1 W (raw (Callee 𝓤 H A at-mem run .pre to-callee)) goes-in $
         calls-at ! fm (Callee 𝓤 H A at-mem run) known to-callee (and-then ! (load ! (from ! (stop !)) (look ! 7 refl)) (and-then ! (load ! (from ! (stop !)) (look ! 13 refl)) (and-then ! (load ! (from ! (stop !)) (look ! 11 refl)) (no-more !)))) (λ w.
         use1 W (later (some (λ (r : After). (‵ ftrue ⊛ ‵ (After-m.the-row .own r (w ∷ []))) ⊛ raw (ensured 𝓤 H A callee.ended (callee.clauses 𝓤 H A at-mem run) tt (h, (card, (to, tt))) tt r)))) (id⊢ 𝓤 _) $ await ! tt $ pick ! (λ r.
-        split ! $ move ! (1 ∷ []) $ use1 W (raw (fact 𝓤 (Left (moveRefusal (cardOf card) (ledgerOf h) to) (ledgerOf h) (lent.moved (cardOf card) (ledgerOf h) to) (afterAs (r .ledger) (r .answer))))) (ensures-of 𝓤 H A at-mem run h card to r) $ heard ! (Left (moveRefusal (cardOf card) (ledgerOf h) to) (ledgerOf h) (lent.moved (cardOf card) (ledgerOf h) to) (afterAs (r .ledger) (r .answer))) (λ e. split ! $ drop ! $
+        split ! $ move ! (1 ∷ []) $ use1 W (raw (fact 𝓤 (Left (moveRefusal (cardOf card) (ledgerOf h) to) (ledgerOf h) (movedOn (cardOf card) (ledgerOf h) to) (afterAs (r .ledger) (r .answer))))) (ensures-of 𝓤 H A at-mem run h card to r) $ heard ! (Left (moveRefusal (cardOf card) (ledgerOf h) to) (ledgerOf h) (movedOn (cardOf card) (ledgerOf h) to) (afterAs (r .ledger) (r .answer))) (λ e. split ! $ drop ! $
         peeks ! After-m.the-row (Is After-m.the-row) (shows 𝓤 H A After-m.the-row) r (w ∷ []) (λ is.
         -- what came back is laid in _4, and its machine value is spelled
         land ! (from ! (stop !)) (init ! 9 refl (LL.lawful After-m.the-type After-l.the-laws 𝓤 H A W .typed r _ is .0)) $

@@ -21,14 +21,11 @@ cast-stamp c = search needs
 add-stamp : tie.Need-add-stamp Inv-loop μ-loop
 add-stamp c = search needs
 
-bench-requires : tie.Need-bench-requires Inv-loop μ-loop
-bench-requires c κs = search needs
+cast-refreshed : tie.Need-cast-refreshed Inv-loop μ-loop
+cast-refreshed c = search needs
 
-cast-entered : tie.Need-cast-entered Inv-loop μ-loop
-cast-entered c = search needs
-
-entered-requires : tie.Need-entered-requires Inv-loop μ-loop
-entered-requires c κs = search needs
+refreshed-requires : tie.Need-refreshed-requires Inv-loop μ-loop
+refreshed-requires c κs = search needs
 
 add-i : tie.Need-add-i Inv-loop μ-loop
 add-i c = search needs
@@ -52,9 +49,8 @@ refreshes-spec =
     mul-stamp
     cast-stamp
     add-stamp
-    bench-requires
-    cast-entered
-    entered-requires
+    cast-refreshed
+    refreshed-requires
     add-i
     loop-less
     loop-again

@@ -6,20 +6,20 @@ use borrow.Author.Needs.{needs}
 use Rattle.rules.specs.Delays.{without}
 use Rattle.rules.specs.Folds.{permittedBy}
 use Rattle.rules.specs.Lent.{lookIn}
-use Rattle.bank.specs.Values.{lentOf}
+use Rattle.bank.specs.Values.{shareOf}
 use Rattle.bounds.specs.Parts.{range, spanOf, sourcesOf}
 use Rattle.bounds.proofs.Spanned.{begins, goes-on, all-asked}
 use Rattle.bounds.proofs.delays.since.Statement.{statement}
 use Rattle.bounds.proofs.delays.since.Tie as tie
 
 abbrev Inv-loop : tie.InvT-loop
-Inv-loop rec ask span lag clocks first count best₀ k₀ best k =
+Inv-loop share ask span lag clocks first count best₀ k₀ best k =
     (k ≤ span .count) ×
-    (permittedBy (lookIn (lentOf rec .history)) (sourcesOf (spanOf span) ask lag clocks) ≡
-    max best (permittedBy (lookIn (lentOf rec .history)) (sourcesOf (without (span .but) (range (span .first + k) (span .count - k))) ask lag clocks)))
+    (permittedBy (lookIn (shareOf share .history)) (sourcesOf (spanOf span) ask lag clocks) ≡
+    max best (permittedBy (lookIn (shareOf share .history)) (sourcesOf (without (span .but) (range (span .first + k) (span .count - k))) ask lag clocks)))
 
 abbrev μ-loop : tie.MeasureT-loop
-μ-loop rec ask span lag clocks first count best₀ k₀ best k = span .count - k
+μ-loop share ask span lag clocks first count best₀ k₀ best k = span .count - k
 
 loop-holds : tie.Need-loop-holds Inv-loop μ-loop
 loop-holds c = (omega arith, begins _ _ _ _ _)

@@ -1,5 +1,5 @@
--- The rules from i + 1 on are still to be asked.
-use Prim.Native.Nat.{_+_, _-_, _≤_}
+-- The rules from place i on are still to be asked.
+use Prim.Native.Nat.{_-_, _≤_}
 use mathlib.Core.Path.{_≡_, refl, ap}
 use native.Mathlib.Omega.{arith}
 use lib.ListN.{drop}
@@ -12,10 +12,10 @@ use Rattle.bounds.proofs.folds.broken.Statement.{statement}
 use Rattle.bounds.proofs.folds.broken.Tie as tie
 
 abbrev Inv-loop : tie.InvT-loop
-Inv-loop stamp bounds t i₀ i = (i ≤ 18) × (brokenFrom 1 bounds stamp ≡ brokenFrom (i + 1) (drop i bounds) stamp)
+Inv-loop stamp bounds t i₀ i = (i ≤ 22) × (brokenFrom 0 bounds stamp ≡ brokenFrom i (drop i bounds) stamp)
 
 abbrev μ-loop : tie.MeasureT-loop
-μ-loop stamp bounds t i₀ i = 18 - i
+μ-loop stamp bounds t i₀ i = 22 - i
 
 loop-holds : tie.Need-loop-holds Inv-loop μ-loop
 loop-holds c = (omega arith, refl)
@@ -23,8 +23,8 @@ loop-holds c = (omega arith, refl)
 returns : tie.Need-returns Inv-loop μ-loop
 unfolding refusalOf named
 returns c =
-    let x = c .before .before .loop in
-    ap (named 10) (breaks _ (x .i) _ (x .inv .1) (omega arith) (c .if1 .taken))
+    let x = c .before .before .before .loop in
+    rw (c .rule-at .ensures) (ap (named 10) (breaks _ (x .i) _ (x .inv .1) (omega arith) (c .before .if1 .taken)))
 
 loop-again : tie.Need-loop-again Inv-loop μ-loop
 loop-again c =

@@ -9,7 +9,7 @@ unfolding is code
 returns c =
     let a = c .before .before .before .before .before .before .before .args in
     rw (
-      after-act-are (a .rec) (a .d) (a .command),
+      after-act-are (a .share) (a .d) (a .command),
       c .plain3 .ensures,
       c .before .plain2 .ensures,
       c .before .before .plain .ensures,

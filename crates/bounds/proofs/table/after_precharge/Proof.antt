@@ -7,7 +7,7 @@ returns : tie.Need-returns
 returns c =
     let a = c .before .before .before .args in
     rw (
-      after-precharge-are (a .rec) (a .d) (a .command),
+      after-precharge-are (a .share) (a .d) (a .command),
       c .plain2 .ensures,
       c .before .plain .ensures,
       c .before .before .idle .ensures,

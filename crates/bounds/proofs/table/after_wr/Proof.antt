@@ -7,7 +7,7 @@ returns : tie.Need-returns
 returns c =
     let a = c .before .before .before .before .before .before .args in
     rw (
-      after-wr-are (a .rec) (a .d) (a .command),
+      after-wr-are (a .share) (a .d) (a .command),
       c .since2 .ensures,
       c .before .wide2 .ensures .0,
       c .before .before .since .ensures,

@@ -9,7 +9,7 @@ unfolding is code
 returns c =
     let s = c .before .before .before in
     let a = s .before .before .args in
-    rw (all-banks-are (a .rec) (a .d) (a .command), c .plain3 .ensures, c .before .plain2 .ensures, c .before .before .plain .ensures, s .own-if .ensures, s .before .kind-of .ensures)
+    rw (all-banks-are (a .share) (a .d) (a .command), c .plain3 .ensures, c .before .plain2 .ensures, c .before .before .plain .ensures, s .own-if .ensures, s .before .kind-of .ensures)
 
 pub all-banks-spec : {M : Type 1} → statement M
 all-banks-spec =

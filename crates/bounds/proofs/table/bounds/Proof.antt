@@ -1,22 +1,27 @@
 use borrow.Author.Needs.{needs}
+use Rattle.pins.specs.Values.{movedOf}
 use Rattle.bounds.proofs.Ruled.{gathered}
 use Rattle.bounds.proofs.table.bounds.Statement.{statement}
 use Rattle.bounds.proofs.table.bounds.Tie as tie
 
 returns : tie.Need-returns
 returns c =
-    let a = c .before .before .before .before .before .before .before .before .before .before .args in
-    gathered (a .rec) (a .d) (a .command) _ _ _ _ _ _ _ _ _ _
-    (c .before .before .before .before .before .before .before .before .before .all-banks .ensures)
-    (c .before .before .before .before .before .before .before .before .after-precharge .ensures)
-    (c .before .before .before .before .before .before .before .after-act .ensures)
-    (c .before .before .before .before .before .before .turns .ensures)
-    (c .before .before .before .before .before .after-rd .ensures)
-    (c .before .before .before .before .after-wr .ensures)
-    (c .before .before .before .after-refpb .ensures)
-    (c .before .before .other-banks .ensures)
-    (c .before .four-before .ensures)
-    (c .bursts .ensures)
+    let s = c .before .before .before in
+    let a = s .before .before .before .before .before .before .before .before .before .before .args in
+    gathered (a .share) (a .d) (a .command) (movedOf (a .moved)) _ _ _ _ _ _ _ _ _ _ _ _ _
+    (s .before .before .before .before .before .before .before .before .before .all-banks .ensures)
+    (s .before .before .before .before .before .before .before .before .after-precharge .ensures)
+    (s .before .before .before .before .before .before .before .after-act .ensures)
+    (s .before .before .before .before .before .before .turns .ensures)
+    (s .before .before .before .before .before .after-rd .ensures)
+    (s .before .before .before .before .after-wr .ensures)
+    (s .before .before .before .after-refpb .ensures)
+    (s .before .before .other-banks .ensures)
+    (s .before .four-before .ensures)
+    (s .bursts .ensures)
+    (c .before .before .after-exit .ensures)
+    (c .before .between-moves .ensures)
+    (c .in-self-refresh .ensures)
 
 pub bounds-spec : {M : Type 1} → statement M
 bounds-spec =
@@ -32,6 +37,11 @@ bounds-spec =
     (λ c κs. search needs)
     (λ c κs. search needs)
     (λ c κs. search needs)
+    (λ c κs. search needs)
+    (λ c κs. search needs)
+    (λ c κs. search needs)
+    (λ c. search needs)
+    (λ c. search needs)
     (λ c. search needs)
     (λ c. search needs)
     (λ c. search needs)

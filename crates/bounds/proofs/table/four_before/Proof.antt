@@ -9,7 +9,7 @@ unfolding is code
 returns c =
     let a = c .before .before .before .args in
     rw (
-      four-before-is (a .rec) (a .d) (a .command),
+      four-before-is (a .share) (a .d) (a .command),
       c .plain .ensures,
       c .before .own-if .ensures,
       c .before .before .kind-of .ensures,

@@ -9,7 +9,7 @@ unfolding is code
 returns c =
     let a = c .before .before .before .before .before .before .args in
     rw (
-      other-banks-is (a .rec) (a .d) (a .command),
+      other-banks-is (a .share) (a .d) (a .command),
       c .greater .ensures,
       c .before .plain2 .ensures,
       c .before .before .plain .ensures,

@@ -9,7 +9,7 @@ unfolding is code
 returns c =
     let a = c .before .before .before .before .before .before .before .args in
     rw (
-      turns-are (a .rec) (a .d) (a .command),
+      turns-are (a .share) (a .d) (a .command),
       c .since2 .ensures,
       c .before .wide2 .ensures .0,
       c .before .before .since .ensures,

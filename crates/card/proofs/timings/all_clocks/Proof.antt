@@ -8,10 +8,10 @@ use Rattle.card.proofs.timings.all_clocks.Statement.{statement}
 use Rattle.card.proofs.timings.all_clocks.Tie as tie
 
 abbrev Inv-loop : tie.InvT-loop
-Inv-loop card out₀ i₀ out i = (i ≤ 14) × (length out ≡ 14) × Counted card i out
+Inv-loop card out₀ i₀ out i = (i ≤ 18) × (length out ≡ 18) × Counted card i out
 
 abbrev μ-loop : tie.MeasureT-loop
-μ-loop card out₀ i₀ out i = 14 - i
+μ-loop card out₀ i₀ out i = 18 - i
 
 loop-holds : tie.Need-loop-holds Inv-loop μ-loop
 unfolding Counted
@@ -23,7 +23,7 @@ loop-again c =
     (omega arith, simp length-set (x .inv .1), counted-more _ (x .i) (x .out) _ (omega arith) (x .inv .2) (c .timing-clocks .ensures))
 
 returns : tie.Need-returns Inv-loop μ-loop
-returns c = let e : c .before .loop .i ≡ 14 = omega arith in rw e at (c .before .loop .inv .2)
+returns c = let e : c .before .loop .i ≡ 18 = omega arith in rw e at (c .before .loop .inv .2)
 
 pub all-clocks-spec : {M : Type 1} → statement M
 all-clocks-spec =

@@ -28,6 +28,10 @@ returns c =
       trfcpb = at 11 (lit< tt) i;
       tmrr = at 12 (lit< tt) i;
       tmrw = at 13 (lit< tt) i;
+      tcke = at 14 (lit< tt) i;
+      txp = at 15 (lit< tt) i;
+      tckesr = at 16 (lit< tt) i;
+      txsr = at 17 (lit< tt) i;
     }
 
 pub delays-of-spec : {M : Type 1} → statement M
@@ -36,6 +40,10 @@ delays-of-spec =
     (tie.spec
     (λ c κs. search needs)
     (λ c κs. search needs)
+    (λ c. search needs)
+    (λ c. search needs)
+    (λ c. search needs)
+    (λ c. search needs)
     (λ c. search needs)
     (λ c. search needs)
     (λ c. search needs)

@@ -1,10 +1,17 @@
+use Prim.Native.Nat.{ℕ, _≤_}
+use mathlib.Core.Path.{_≡_}
+use mathlib.Core.Bool.{false}
 use native.Mathlib.Omega.{arith}
+use lib.Dec.{leb}
 use borrow.Author.Tests.{ne-eqb, lt-leb}
 use borrow.Author.Needs.{needs}
 use Rattle.card.specs.Reading.{good, put}
 use Rattle.card.proofs.Numbers.{mr2-byte, groups-short}
 use Rattle.card.proofs.values.put.Statement.{statement}
 use Rattle.card.proofs.values.put.Tie as tie
+
+past-four : (t : ℕ) → 1 ≤ t → (t ≡ 1 → ⊥) → (t ≡ 2 → ⊥) → (t ≡ 3 → ⊥) → (t ≡ 4 → ⊥) → leb t 4 ≡ false
+past-four t h a b c d = lt-leb t 4 (omega arith)
 
 returns : tie.Need-returns
 unfolding put
@@ -33,12 +40,14 @@ returns-4 c = rw (c .if4 .taken)
 returns-5 : tie.Need-returns-5
 unfolding put
 returns-5 c =
+    let e = c .before in
+    let a = e .before .before .before in
     rw (
-      ne-eqb _ _ (c .before .before .before .if1 .left),
-      ne-eqb _ _ (c .before .before .if2 .left),
-      ne-eqb _ _ (c .before .if3 .left),
-      ne-eqb _ _ (c .if4 .left),
-      lt-leb (c .before .before .before .before .args .tag) 4 (omega arith),
+      ne-eqb _ _ (a .if1 .left),
+      ne-eqb _ _ (e .before .before .if2 .left),
+      ne-eqb _ _ (e .before .if3 .left),
+      ne-eqb _ _ (e .if4 .left),
+      past-four (a .before .args .tag) (a .before .pre .0) (a .if1 .left) (e .before .before .if2 .left) (e .before .if3 .left) (e .if4 .left),
     )
 
 pub put-spec : {M : Type 1} → statement M

@@ -12,14 +12,14 @@ use Rattle.card.proofs.values.read_value.Tie as tie
 
 returns : tie.Need-returns
 unfolding within
-returns c = let t = c .before .before .args .tag in bad-tag _ t _ (not-true (leb 1 t && leb t 18) (c .if1 .taken))
+returns c = let t = c .before .before .args .tag in bad-tag _ t _ (not-true (leb 1 t && leb t 22) (c .if1 .taken))
 
 returns-2 : tie.Need-returns-2
 unfolding within
 returns-2 c =
     let a = c .before in
     let t = a .before .before .before .args .tag in
-    bad-length _ t _ (not-false (leb 1 t && leb t 18) (a .before .if1 .left)) (sym (a .length-good .ensures) ∙ not-true (a .length-good .result) (c .if2 .taken))
+    bad-length _ t _ (not-false (leb 1 t && leb t 22) (a .before .if1 .left)) (sym (a .length-good .ensures) ∙ not-true (a .length-good .result) (c .if2 .taken))
 
 fifth-requires : tie.Need-fifth-requires
 unfolding within
@@ -28,14 +28,14 @@ fifth-requires c κs =
     let a = e .before in
     let t = a .before .before .before .args .tag in
     card-length t _ (sym (a .length-good .ensures) ∙ not-false (a .length-good .result) (e .if2 .left)) .0
-    (within-both 1 18 t (not-false (leb 1 t && leb t 18) (a .before .if1 .left)) .1)
+    (within-both 1 22 t (not-false (leb 1 t && leb t 22) (a .before .if1 .left)) .1)
 
 taken-requires : tie.Need-taken-requires
 unfolding within
 taken-requires c κs =
     let b = c .before .before .before .before in
     let t = b .before .before .args .tag in
-    within-both 1 18 t (not-false (leb 1 t && leb t 18) (b .if1 .left))
+    within-both 1 22 t (not-false (leb 1 t && leb t 22) (b .if1 .left))
 
 returns-3 : tie.Need-returns-3
 unfolding within
@@ -44,7 +44,7 @@ returns-3 c =
     let a = e .before in
     let t = a .before .before .before .args .tag in
     rw (c .taken .ensures, c .before .before .first-four .ensures, c .before .fifth .ensures)
-    (in-parts _ t _ (not-false (leb 1 t && leb t 18) (a .before .if1 .left)) (sym (a .length-good .ensures) ∙ not-false (a .length-good .result) (e .if2 .left)))
+    (in-parts _ t _ (not-false (leb 1 t && leb t 22) (a .before .if1 .left)) (sym (a .length-good .ensures) ∙ not-false (a .length-good .result) (e .if2 .left)))
 
 pub read-value-spec : {M : Type 1} → statement M
 read-value-spec =

@@ -9,9 +9,9 @@ returns c = c .refused .ensures ∙ card-refused _ _ _ (c .before .before .read-
 
 returns-2 : tie.Need-returns-2
 returns-2 c =
-    let e = c .before .before .before in
+    let e = c .before .before in
     rw (c .before .fresh-record .ensures, c .further .ensures)
-    (card-taken _ _ _ (e .before .read-value .ensures) (e .before .before .before .before .before .before .pre .1) (e .if1 .left))
+    (card-taken _ _ _ (e .before .read-value .ensures) (e .before .before .before .before .before .before .pre) (e .if1 .left))
 
 pub take-card-spec : {M : Type 1} → statement M
 take-card-spec =
@@ -24,7 +24,6 @@ take-card-spec =
     (λ c κs. search needs)
     (λ c κs. search needs)
     returns
-    (λ c. search needs)
     (λ c κs. search needs)
     (λ c κs. search needs)
     returns-2)

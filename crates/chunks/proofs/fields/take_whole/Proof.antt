@@ -8,14 +8,14 @@ use Rattle.chunks.proofs.fields.take_whole.Statement.{statement}
 use Rattle.chunks.proofs.fields.take_whole.Tie as tie
 
 take-entry-requires : tie.Need-take-entry-requires
-take-entry-requires c κs = c .before .before .before .pre .1 .1 (c .if1 .taken)
+take-entry-requires c κs = c .before .before .before .pre .1 (c .if1 .taken)
 
 returns : tie.Need-returns
 unfolding fieldTook fieldIn
 returns c = c .take-entry .ensures ∙ rw (eq-eqb _ _ (c .before .if1 .taken))
 
 take-end-requires : tie.Need-take-end-requires
-take-end-requires c κs = let e = c .before .before .before .before in end-size _ _ (c .if2 .taken) (e .pre .0 .1) (e .pre .1 .0)
+take-end-requires c κs = let e = c .before .before .before .before in end-size _ _ (c .if2 .taken) (e .pre .0 .0) (e .pre .0 .1)
 
 returns-2 : tie.Need-returns-2
 unfolding fieldTook fieldIn

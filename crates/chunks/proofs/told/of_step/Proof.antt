@@ -38,12 +38,17 @@ returns-8 c = rw (c .enum-told7 .given .1)
 
 returns-9 : tie.Need-returns-9
 unfolding toldOf stepped.refusalOf
-returns-9 c = rw (c .before .answer2 .given .1)
+returns-9 c = rw (c .enum-told8 .given .1)
+
+returns-10 : tie.Need-returns-10
+unfolding toldOf stepped.refusalOf
+returns-10 c = rw (c .before .answer2 .given .1)
 
 pub of-step-spec : {M : Type 1} → statement M
 of-step-spec =
     tie.close
     (tie.spec
+    (λ c. search needs)
     (λ c. search needs)
     (λ c. search needs)
     (λ c. search needs)
@@ -61,4 +66,5 @@ of-step-spec =
     returns-6
     returns-7
     returns-8
-    returns-9)
+    returns-9
+    returns-10)

@@ -1,20 +1,29 @@
-use mathlib.Core.Path.{refl}
-use native.Mathlib.Nat.{div-le-self}
 use native.Mathlib.Omega.{arith}
 use borrow.Author.Needs.{needs}
-use Rattle.ledger.proofs.Closing.{ahead-fits}
+use Rattle.ledger.specs.Parts.{beatAs}
+use Rattle.ledger.proofs.Closing.{more-fit, over-fits, over-so}
 use Rattle.ledger.proofs.account.over_at.Statement.{statement}
 use Rattle.ledger.proofs.account.over_at.Tie as tie
 
-add-result : tie.Need-add-result
-add-result c = omega (arith, div-le-self (c .args .at) (c .args .interval))
-
 mul-result : tie.Need-mul-result
-mul-result c = record { fits = ahead-fits _ _ _ (omega arith) (omega arith) (omega arith) }
+mul-result c = record { fits = more-fit _ _ (omega arith) (omega arith) }
+
+add-result : tie.Need-add-result
+unfolding beatAs
+add-result c = omega (arith, over-fits _ _ (c .before .before .pre .0) (omega arith) (omega arith) (c .before .before .args .owed) _ (c .before .next-after .ensures))
 
 returns : tie.Need-returns
-returns c = refl
+unfolding beatAs
+returns c = over-so _ _ _ _ (c .before .next-after .ensures)
 
 pub over-at-spec : {M : Type 1} → statement M
 over-at-spec =
-    tie.close (tie.spec (λ c. search needs) (λ c. search needs) (λ c. search needs) add-result mul-result returns)
+    tie.close
+    (tie.spec
+    (λ c κs. search needs)
+    (λ c. search needs)
+    (λ c. search needs)
+    (λ c. search needs)
+    mul-result
+    add-result
+    returns)

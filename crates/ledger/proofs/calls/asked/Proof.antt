@@ -31,8 +31,8 @@ returns-2 c =
     rw (c .told2 .ensures)
     (refused-as _ _ (refused-5 _ _ _ (sym (c .before .before .before .admission .ensures) ∙ c .before .if2 .taken) _) _ _ refl _)
 
-interval-requires : tie.Need-interval-requires
-interval-requires c κs = search needs
+beat-of-requires : tie.Need-beat-of-requires
+beat-of-requires c κs = search needs
 
 go-on-requires : tie.Need-go-on-requires
 unfolding ledgerOf
@@ -40,14 +40,14 @@ go-on-requires c κs =
     let d = c .before .before .before .admission .ensures in
     let p = not-refused _ _ _ (λ e. c .before .before .if1 .left (d ∙ e)) (λ e. c .before .if2 .left (d ∙ e)) in
     let a = sound-when _ _ (p .0 .good) in
-    record { some = rw (c .interval .ensures) (a .positive); low = a .low; later = p .0 .later }
+    record { near = rw (c .beat-of .ensures) (a .near _); low = a .low; later = p .0 .later }
 
 returns-3 : tie.Need-returns-3
 unfolding askedOf firstOf ledgerOf
 returns-3 c =
     let d = c .before .before .before .before .admission .ensures in
     let p = not-refused _ _ _ (λ e. c .before .before .before .if1 .left (d ∙ e)) (λ e. c .before .before .if2 .left (d ∙ e)) in
-    rw (p .1 _, or-none, ← c .before .interval .ensures) (c .go-on .ensures)
+    rw (p .1 _, or-none, ← c .before .beat-of .ensures) (c .go-on .ensures)
 
 pub asked-spec : {M : Type 1} → statement M
 asked-spec =
@@ -58,6 +58,6 @@ asked-spec =
     returns
     told-requires-2
     returns-2
-    interval-requires
+    beat-of-requires
     go-on-requires
     returns-3)

@@ -1,26 +1,43 @@
--- 13, and then the closed form.
+-- 13, whether the cycles count, and then the closed form.
 use mathlib.Core.Path.{sym, _∙_}
+use native.Mathlib.Omega.{arith}
 use borrow.Author.Tests.{not-true, not-false}
 use borrow.Author.Needs.{needs}
 use Rattle.ledger.proofs.Admission.{sound-when}
-use Rattle.ledger.proofs.Deadlines.{not-sound, sound-deadline}
+use Rattle.ledger.proofs.Deadlines.{not-sound, not-running, running}
 use Rattle.ledger.proofs.calls.deadline.Statement.{statement}
 use Rattle.ledger.proofs.calls.deadline.Tie as tie
 
 returns : tie.Need-returns
 returns c = not-sound _ _ (sym (c .before .sound .ensures) ∙ not-true _ (c .if1 .taken))
 
-closed-requires : tie.Need-closed-requires
-closed-requires c κs =
-    let b = c .before in
-    let s = sound-when _ _ (sym (b .before .sound .ensures) ∙ not-false _ (b .if1 .left)) in
-    (rw (c .interval .ensures) (s .positive), s .low)
-
 returns-2 : tie.Need-returns-2
 returns-2 c =
     let b = c .before .before in
-    c .closed .ensures
-    ∙ rw (c .before .interval .ensures) (sound-deadline _ _ (sym (b .before .sound .ensures) ∙ not-false _ (b .if1 .left)))
+    not-running _ _ (sym (b .before .sound .ensures) ∙ not-false _ (b .if1 .left)) (sym (c .before .stopped .ensures) ∙ c .if2 .taken)
+
+deadline-in-requires : tie.Need-deadline-in-requires
+deadline-in-requires c κs =
+    let b = c .before .before .before in
+    let s = sound-when _ _ (sym (b .before .sound .ensures) ∙ not-false _ (b .if1 .left)) in
+    record { near = rw (c .beat-of .ensures) (s .near _); low = s .low; later = omega arith }
+
+returns-3 : tie.Need-returns-3
+returns-3 c =
+    let h = c .before .before in
+    let b = h .before .before in
+    c .deadline-in .ensures
+    ∙ rw (c .before .beat-of .ensures)
+    (running _ _ (sym (b .before .sound .ensures) ∙ not-false _ (b .if1 .left)) (sym (h .before .stopped .ensures) ∙ h .if2 .left))
 
 pub deadline-spec : {M : Type 1} → statement M
-deadline-spec = tie.close (tie.spec (λ c κs. search needs) returns (λ c κs. search needs) closed-requires returns-2)
+deadline-spec =
+    tie.close
+    (tie.spec
+    (λ c κs. search needs)
+    returns
+    (λ c κs. search needs)
+    returns-2
+    (λ c κs. search needs)
+    deadline-in-requires
+    returns-3)

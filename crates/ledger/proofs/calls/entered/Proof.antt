@@ -8,7 +8,7 @@ use Rattle.ledger.proofs.calls.entered.Statement.{statement}
 use Rattle.ledger.proofs.calls.entered.Tie as tie
 
 returns : tie.Need-returns
-unfolding lent.enterRefusal lent.entered accountOf newOf askedOf firstOf
+unfolding lent.enterRefusal accountOf newOf askedOf firstOf
 returns c = rw or-none (rw or-none at (c .asked .ensures))
 
 pub entered-spec : {M : Type 1} → statement M

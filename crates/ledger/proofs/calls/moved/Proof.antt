@@ -6,7 +6,7 @@ use Rattle.ledger.proofs.calls.moved.Statement.{statement}
 use Rattle.ledger.proofs.calls.moved.Tie as tie
 
 returns : tie.Need-returns
-unfolding lent.moveRefusal lent.moved accountOf newOf askedOf
+unfolding lent.moveRefusal lent.movedOn accountOf newOf askedOf
 returns c = c .asked .ensures
 
 pub moved-spec : {M : Type 1} → statement M

@@ -1,46 +1,56 @@
--- A ledger moved on, by the account's closed form.
-use mathlib.Core.Path.{ap, sym, _∙_}
+-- A ledger moved on, by the account's closed form over its numbers.
+use native.Mathlib.Omega.{arith}
 use borrow.Author.Needs.{needs}
-use Rattle.ledger.specs.Parts.{idleOf}
-use Rattle.ledger.proofs.Moves.{none-failing, one-failing}
+use Rattle.ledger.specs.Parts.{shifted}
+use Rattle.ledger.proofs.Moves.{numbers-by, stands-moved, breaks-told}
 use Rattle.ledger.proofs.moving.reach.Statement.{statement}
 use Rattle.ledger.proofs.moving.reach.Tie as tie
 
-idle-to-requires : tie.Need-idle-to-requires
-idle-to-requires c κs = search needs
+add-m : tie.Need-add-m
+add-m c = let s = c .before .before in omega (arith, numbers-by (s .args .ledger) (s .args .to) (s .pre .later))
 
-enum-known-x : tie.Need-enum-known-x
-enum-known-x c = search needs
+sub-t16 : tie.Need-sub-t16
+sub-t16 c = omega (arith, c .before .before .before .before .idle-to .ensures .passed _ _ (c .before .before .rule .given .1) .0)
 
-enum-known-rule : tie.Need-enum-known-rule
-enum-known-rule c = search needs
-
-told-requires : tie.Need-told-requires
-told-requires c κs = search needs
+add-t17 : tie.Need-add-t17
+add-t17 c = omega (arith, c .before .before .before .before .idle-to .ensures .passed _ _ (c .before .before .rule .given .1) .1)
 
 returns : tie.Need-returns
-unfolding idleOf
-returns c = record {
-  left = none-failing _ _ _ _ (sym (c .before .before .before .idle-to .ensures .is) ∙ ap idleOf (c .before .x .given .1));
-  low = c .before .before .before .idle-to .ensures .low _ (c .before .x .given .1);
-}
+returns c =
+    let i = c .before .before .before .before .before in
+    let e = c .before .before .before .x .given .1 in
+    rw (c .told .ensures, c .before .shift .ensures)
+    (record {
+      left = stands-moved _ _ _ _ _ (i .before .before .number-of .ensures) (i .before .counted-to .ensures) _ (i .idle-to .ensures .is) _ e;
+      low = unfold shifted in i .idle-to .ensures .low _ e;
+    })
 
 returns-2 : tie.Need-returns-2
-unfolding idleOf
 returns-2 c =
-    rw (c .told .ensures)
+    let i = c .before .before .before .before .before in
+    let e = c .before .before .before .rule .given .1 in
+    rw (c .told2 .ensures)
     (record {
-      left = one-failing _ _ _ _ _ (sym (c .before .before .before .before .idle-to .ensures .is) ∙ ap idleOf (c .before .before .rule .given .1));
-      low = c .before .before .before .before .before .pre .low;
+      left = breaks-told _ _ _ _ _ (i .before .before .number-of .ensures) (i .before .counted-to .ensures) _ (i .idle-to .ensures .is) _ _ e;
+      low = i .before .before .before .pre .low;
     })
 
 pub reach-spec : {M : Type 1} → statement M
 reach-spec =
     tie.close
     (tie.spec
-    idle-to-requires
-    enum-known-x
-    enum-known-rule
-    told-requires
+    (λ c κs. search needs)
+    (λ c κs. search needs)
+    add-m
+    (λ c κs. search needs)
+    (λ c. search needs)
+    (λ c κs. search needs)
+    (λ c κs. search needs)
+    (λ c. search needs)
+    (λ c. search needs)
+    (λ c. search needs)
+    sub-t16
+    add-t17
+    (λ c κs. search needs)
     returns
     returns-2)

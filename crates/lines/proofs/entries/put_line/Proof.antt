@@ -27,7 +27,7 @@ returns c =
     let number = command .before .before .before .before in
     let a = number .before .before .before .args in
     let first = then (omega arith) (number .put-number .ensures) (command .put-command .ensures .0) in
-    (put-as (entry-joined _ _) (then (omega arith) first (c .before .before .put-text .ensures)), omega (arith, short 9 (a .stamp) (omega arith)))
+    (put-as (entry-joined _ _ _) (then (omega arith) first (c .before .before .put-text .ensures)), omega (arith, short 9 (a .stamp) (omega arith)))
 
 pub put-line-spec : {M : Type 1} → statement M
 put-line-spec =

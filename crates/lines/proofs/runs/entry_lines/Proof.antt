@@ -5,24 +5,25 @@ use native.Mathlib.Omega.{arith}
 use borrow.Author.Needs.{needs}
 use lib.ListN.{length}
 use Rattle.rules.proofs.Onward.{onward}
+use Rattle.pins.specs.Values.{levelOf}
 use Rattle.lines.specs.Written.{Put}
-use Rattle.lines.specs.Runs.{linesAt, roundAt, lineCount}
+use Rattle.lines.specs.Runs.{standing, standingOf, linesAt, standsAt, lineCount, HighGood}
 use Rattle.lines.specs.Quick.{LeadGood}
 use Rattle.lines.proofs.Puts.{lined}
 use Rattle.lines.proofs.Leading.{pairs-good}
-use Rattle.lines.proofs.LinesIn.{lines-none, round-none, lines-next}
+use Rattle.lines.proofs.LinesIn.{lines-none, stands-none, lines-next}
 use Rattle.lines.proofs.runs.entry_lines.Statement.{statement}
 use Rattle.lines.proofs.runs.entry_lines.Tie as tie
 
 abbrev Inv-loop : tie.InvT-loop
-Inv-loop out₀ bytes count counter n pairs next₀ i₀ out next i =
-    Put 0 (linesAt i counter bytes) out₀ out (next .at) × (next .counter ≡ roundAt i counter bytes) × (i ≤ n) × (next .at ≤ 24 * i) × LeadGood (next .lead) × (length out ≡ length out₀)
+Inv-loop out₀ bytes count sleeps counter n pairs next₀ i₀ out next i =
+    Put 0 (linesAt sleeps i (standingOf next₀) bytes) out₀ out (next .at) × (standingOf next ≡ standsAt sleeps i (standingOf next₀) bytes) × (i ≤ n) × (next .at ≤ 24 * i) × LeadGood (next .lead) × (length out ≡ length out₀) × HighGood next
 
 abbrev μ-loop : tie.MeasureT-loop
-μ-loop out₀ bytes count counter n pairs next₀ i₀ out next i = n - i
+μ-loop out₀ bytes count sleeps counter n pairs next₀ i₀ out next i = n - i
 
 loop-holds : tie.Need-loop-holds Inv-loop μ-loop
-loop-holds c = (lines-none _ _ _, round-none _ _, omega arith, omega arith, c .lead-of .ensures, refl)
+loop-holds c = (lines-none _ _ _ _, stands-none _ _ _, omega arith, omega arith, c .lead-of .ensures, refl, c .before .high-of .ensures)
 
 mul-at : tie.Need-mul-at Inv-loop μ-loop
 mul-at c = omega arith
@@ -46,7 +47,7 @@ put-entry-requires : tie.Need-put-entry-requires Inv-loop μ-loop
 unfolding onward
 put-entry-requires c κs =
     let w = c .before .before .before .before .before .loop .inv in
-    (omega (arith, w .3, w .5), w .4, pairs-good _ refl)
+    (omega (arith, w .3, w .5), w .4, pairs-good _ refl, w .6)
 
 add-i : tie.Need-add-i Inv-loop μ-loop
 add-i c = omega arith
@@ -58,12 +59,12 @@ loop-again : tie.Need-loop-again Inv-loop μ-loop
 loop-again c =
     let f = c .before .before .before .before .before in
     let l = f .before .before .before .loop in
-    let a = f .before .before .before .before .before .before .before .before .before .before .args in
+    let a = f .before .before .before .before .before .before .before .before .before .before .before .args in
     let w = l .inv in
     let x = c .before .before .put-entry .ensures in
     let ten : 10 * l .i + 10 - 10 * l .i ≡ 10 = omega arith in
-    let more = lines-next (l .i) (a .counter) (a .bytes .now) (f .entry-at .result) (rw ten at (f .entry-at .ensures)) (omega arith) (w .0) (w .1) x in
-    (more .0, more .1, omega arith, omega (arith, x .small, w .3), x .lead, omega (arith, w .5))
+    let more = lines-next (a .sleeps) (l .i) (standing (levelOf (a .level)) (a .counter)) (a .bytes .now) (f .entry-at .result) (rw ten at (f .entry-at .ensures)) (omega arith) (w .0) (w .1) x in
+    (more .0, more .1, omega arith, omega (arith, x .small, w .3), x .lead, omega (arith, w .5), x .high)
 
 same-length : tie.Need-same-length Inv-loop μ-loop
 same-length c = c .before .loop .inv .5
@@ -71,7 +72,7 @@ same-length c = c .before .loop .inv .5
 returns : tie.Need-returns Inv-loop μ-loop
 returns c =
     let w = c .before .loop .inv in
-    let a = c .before .before .before .before .before .before .before .before .args in
+    let a = c .before .before .before .before .before .before .before .before .before .args in
     let e : c .before .loop .i ≡ lineCount (a .count) (length (a .bytes .now)) (length (a .out .now)) = omega (arith, w .2) in
     rw e at (lined (w .5) (w .0))
 
@@ -81,6 +82,7 @@ entry-lines-spec =
     (tie.spec
     Inv-loop
     μ-loop
+    (λ c κs. search needs)
     (λ c κs. search needs)
     (λ c κs. search needs)
     (λ c κs. search needs)

@@ -3,19 +3,18 @@ use mathlib.Core.Path.{sym, _∙_}
 use borrow.Author.Needs.{needs}
 use borrow.Author.Tests.{not-true, not-false}
 use Rattle.rules.specs.Folds.{orElse, firstOf}
-use Rattle.rules.specs.Entries as entries
-use Rattle.rules.specs.Checks.{unless, isWrong, isReserved}
+use Rattle.rules.specs.Checks.{unless}
 use Rattle.step.specs.Values.{refusalOf}
-use Rattle.step.specs.Parts.{readingRefusal}
+use Rattle.step.specs.Parts.{commandRefusal}
 use Rattle.step.proofs.reading.command_refused.Statement.{statement}
 use Rattle.step.proofs.reading.command_refused.Tie as tie
 
 returns : tie.Need-returns
-unfolding refusalOf readingRefusal firstOf orElse unless isWrong isReserved entries.commandOf
+unfolding refusalOf commandRefusal firstOf orElse unless
 returns c = rw (sym (c .before .state-good .ensures) ∙ not-true _ (c .if1 .taken))
 
 returns-2 : tie.Need-returns-2
-unfolding refusalOf readingRefusal firstOf orElse unless isWrong isReserved entries.commandOf
+unfolding refusalOf commandRefusal firstOf orElse unless
 returns-2 c =
     rw (
       sym (c .before .before .before .state-good .ensures) ∙ not-false _ (c .before .before .if1 .left),
@@ -23,7 +22,7 @@ returns-2 c =
     )
 
 returns-3 : tie.Need-returns-3
-unfolding refusalOf readingRefusal firstOf orElse unless isWrong isReserved entries.commandOf
+unfolding refusalOf commandRefusal firstOf orElse unless
 returns-3 c =
     rw (
       sym (c .before .before .before .state-good .ensures) ∙ not-false _ (c .before .before .if1 .left),

@@ -37,7 +37,7 @@ saw : (c : tie.After-passes Inv-loop μ-loop) →
     let l = head c .loop in
     let a = first (head c) .before .before .args in
     Saw (a .delays) (a .rec) (a .bytes .now) (a .most)
-    (record { opened = l .opened; refpb = a .rec .banks .refpb; pre = l .pre; act = l .act; rd = l .rd; rda = l .rda; wr = l .wr; wra = l .wra })
+    (record { opened = l .opened; refpb = a .rec .share .banks .refpb; pre = l .pre; act = l .act; rd = l .rd; rda = l .rda; wr = l .wr; wra = l .wra })
     (l .bus) (l .four) (l .last) (l .used) (l .nops) (l .left)
     (found c .entry-at .result)
     (hotWith (c .before .before .before .before .before .before .before .before .before .before .before .before .before .before .kind-on .result))

@@ -5,7 +5,7 @@ use Rattle.step.proofs.running.stands.Tie as tie
 
 returns : tie.Need-returns
 unfolding standsOf
-returns c = search needs
+returns c = rw (c .before .before .before .before .before .is-awake .ensures) (search needs)
 
 pub stands-spec : {M : Type 1} → statement M
-stands-spec = tie.close (tie.spec (λ c. search needs) returns)
+stands-spec = tie.close (tie.spec (λ c κs. search needs) (λ c. search needs) returns)

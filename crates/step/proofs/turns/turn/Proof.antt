@@ -12,8 +12,8 @@ use Rattle.step.proofs.turns.turn.Tie as tie
 arrays : (c : tie.Start) → Whole (c .args .part .rec)
 arrays c =
     let r = c .args .part .rec in
-    let parts = c .good .0 .1 .1 .0 .1 .1 in
-    let banks = parts .1 .1 .1 .1 .1 .1 .1 .0 .1 .1 in
+    let share = c .good .0 .1 .1 .0 .1 .1 .1 .1 .0 .1 .1 in
+    let banks = share .1 .1 .1 .1 .1 .1 .0 .1 .1 in
     let refpb = banks .1 .0 .1 .1 in
     let pre = banks .1 .1 .0 .1 .1 in
     let act = banks .1 .1 .1 .0 .1 .1 in
@@ -22,14 +22,14 @@ arrays c =
     let wr = banks .1 .1 .1 .1 .1 .1 .0 .1 .1 in
     let wra = banks .1 .1 .1 .1 .1 .1 .1 .0 .1 .1 in
     record {
-      opened = held (r .banks .opened) (banks .0 .1 .0 .1);
-      refpb = each-whole (r .banks .refpb) (refpb .0 .1 .0 .1) (refpb .1 .0 .1 .0 .1);
-      pre = each-whole (r .banks .pre) (pre .0 .1 .0 .1) (pre .1 .0 .1 .0 .1);
-      act = each-whole (r .banks .act) (act .0 .1 .0 .1) (act .1 .0 .1 .0 .1);
-      rd = each-whole (r .banks .rd) (rd .0 .1 .0 .1) (rd .1 .0 .1 .0 .1);
-      rda = each-whole (r .banks .rda) (rda .0 .1 .0 .1) (rda .1 .0 .1 .0 .1);
-      wr = noted-whole (r .banks .wr) (wr .0 .1 .0 .1) (wr .1 .0 .1 .0 .1) (wr .1 .1 .0 .1 .0 .1);
-      wra = noted-whole (r .banks .wra) (wra .0 .1 .0 .1) (wra .1 .0 .1 .0 .1) (wra .1 .1 .0 .1 .0 .1);
+      opened = held (r .share .banks .opened) (banks .0 .1 .0 .1);
+      refpb = each-whole (r .share .banks .refpb) (refpb .0 .1 .0 .1) (refpb .1 .0 .1 .0 .1);
+      pre = each-whole (r .share .banks .pre) (pre .0 .1 .0 .1) (pre .1 .0 .1 .0 .1);
+      act = each-whole (r .share .banks .act) (act .0 .1 .0 .1) (act .1 .0 .1 .0 .1);
+      rd = each-whole (r .share .banks .rd) (rd .0 .1 .0 .1) (rd .1 .0 .1 .0 .1);
+      rda = each-whole (r .share .banks .rda) (rda .0 .1 .0 .1) (rda .1 .0 .1 .0 .1);
+      wr = noted-whole (r .share .banks .wr) (wr .0 .1 .0 .1) (wr .1 .0 .1 .0 .1) (wr .1 .1 .0 .1 .0 .1);
+      wra = noted-whole (r .share .banks .wra) (wra .0 .1 .0 .1) (wra .1 .0 .1 .0 .1) (wra .1 .1 .0 .1 .0 .1);
     }
 
 small : (c : tie.Start) → length (now (c .args .bytes)) < 2 ^ 64

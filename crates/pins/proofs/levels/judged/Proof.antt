@@ -1,0 +1,54 @@
+use borrow.Author.Needs.{needs}
+use Rattle.rules.specs.Entries as entries
+use Rattle.pins.specs.Values.{commandOf, readOf}
+use Rattle.pins.proofs.levels.judged.Statement.{statement}
+use Rattle.pins.proofs.levels.judged.Tie as tie
+
+enum-known-read : tie.Need-enum-known-read
+enum-known-read c = search needs
+
+command-in-requires : tie.Need-command-in-requires
+command-in-requires c κs = search needs
+
+enum-known-read-2 : tie.Need-enum-known-read-2
+enum-known-read-2 c = search needs
+
+moves-as-requires : tie.Need-moves-as-requires
+moves-as-requires c κs = search needs
+
+enum-told : tie.Need-enum-told
+enum-told c = search needs
+
+enum-told-2 : tie.Need-enum-told-2
+enum-told-2 c = search needs
+
+returns : tie.Need-returns
+unfolding entries.judgedAs commandOf readOf
+returns c = cc
+
+returns-2 : tie.Need-returns-2
+unfolding entries.judgedAs commandOf readOf
+returns-2 c = cc
+
+returns-3 : tie.Need-returns-3
+unfolding entries.judgedAs commandOf readOf
+returns-3 c = cc
+
+returns-4 : tie.Need-returns-4
+unfolding entries.judgedAs commandOf readOf
+returns-4 c = cc
+
+pub judged-spec : {M : Type 1} → statement M
+judged-spec =
+    tie.close
+    (tie.spec
+    enum-known-read
+    command-in-requires
+    enum-known-read-2
+    moves-as-requires
+    enum-told
+    enum-told-2
+    returns
+    returns-2
+    returns-3
+    returns-4)

@@ -1,0 +1,46 @@
+use borrow.Author.Needs.{needs}
+use Rattle.rules.specs.Entries as entries
+use Rattle.pins.specs.Values.{movedOf, readOf}
+use Rattle.pins.proofs.levels.move_of.Statement.{statement}
+use Rattle.pins.proofs.levels.move_of.Tie as tie
+
+enum-told : tie.Need-enum-told
+enum-told c = search needs
+
+enum-known-read : tie.Need-enum-known-read
+enum-known-read c = search needs
+
+enum-told-2 : tie.Need-enum-told-2
+enum-told-2 c = search needs
+
+enum-told-3 : tie.Need-enum-told-3
+enum-told-3 c = search needs
+
+returns : tie.Need-returns
+unfolding entries.moveOf movedOf readOf
+returns c = cc
+
+returns-2 : tie.Need-returns-2
+unfolding entries.moveOf movedOf readOf
+returns-2 c = cc
+
+returns-3 : tie.Need-returns-3
+unfolding entries.moveOf movedOf readOf
+returns-3 c = cc
+
+returns-4 : tie.Need-returns-4
+unfolding entries.moveOf movedOf readOf
+returns-4 c = cc
+
+pub move-of-spec : {M : Type 1} → statement M
+move-of-spec =
+    tie.close
+    (tie.spec
+    enum-told
+    enum-known-read
+    enum-told-2
+    enum-told-3
+    returns
+    returns-2
+    returns-3
+    returns-4)

@@ -1,0 +1,50 @@
+use borrow.Author.Needs.{needs}
+use Rattle.rules.specs.Entries as entries
+use Rattle.pins.specs.Values.{commandOf, readOf}
+use Rattle.pins.proofs.levels.recorded.Statement.{statement}
+use Rattle.pins.proofs.levels.recorded.Tie as tie
+
+enum-known-read : tie.Need-enum-known-read
+enum-known-read c = search needs
+
+command-in-requires : tie.Need-command-in-requires
+command-in-requires c κs = search needs
+
+enum-told : tie.Need-enum-told
+enum-told c = search needs
+
+enum-told-2 : tie.Need-enum-told-2
+enum-told-2 c = search needs
+
+enum-told-3 : tie.Need-enum-told-3
+enum-told-3 c = search needs
+
+returns : tie.Need-returns
+unfolding entries.recordedAs commandOf readOf
+returns c = cc
+
+returns-2 : tie.Need-returns-2
+unfolding entries.recordedAs commandOf readOf
+returns-2 c = cc
+
+returns-3 : tie.Need-returns-3
+unfolding entries.recordedAs commandOf readOf
+returns-3 c = cc
+
+returns-4 : tie.Need-returns-4
+unfolding entries.recordedAs commandOf readOf
+returns-4 c = cc
+
+pub recorded-spec : {M : Type 1} → statement M
+recorded-spec =
+    tie.close
+    (tie.spec
+    enum-known-read
+    command-in-requires
+    enum-told
+    enum-told-2
+    enum-told-3
+    returns
+    returns-2
+    returns-3
+    returns-4)

@@ -1,0 +1,86 @@
+// A ledger moved on or taken through an entry's cycle, and its line.
+use ledger::After;
+use ledger::Answer;
+use ledger::Effect;
+use ledger::Ledger;
+use libc::STDOUT_FILENO;
+use pins::Level;
+
+pub fn lent(at: u32, owed: u8, since: u32, skipped: u32, level: Level) -> Ledger {
+    Ledger {
+        at,
+        owed,
+        since,
+        skipped,
+        level,
+    }
+}
+
+// Awake, with every cycle counted.
+pub fn stands(at: u32, owed: u8, since: u32) -> Ledger {
+    lent(at, owed, since, 0, Level::Awake)
+}
+
+fn put(n: u64) {
+    io::print_decimal(STDOUT_FILENO, n);
+    io::write_all(STDOUT_FILENO, b" ");
+}
+
+fn put_refusal(number: u64, rule: u64, cycle: u64) {
+    put(number);
+    put(rule);
+    put(cycle);
+}
+
+fn put_answer(answer: Answer) {
+    match answer {
+        Answer::Done => put_refusal(0, 0, 0),
+        Answer::BadRecord => put_refusal(13, 0, 0),
+        Answer::Earlier => put_refusal(5, 0, 0),
+        Answer::Overdue { rule, cycle } => put_refusal(11, rule as u64, cycle),
+    }
+}
+
+fn depth(level: Level) -> u64 {
+    match level {
+        Level::Awake => 0,
+        Level::PowerDown => 1,
+        Level::SelfRefresh => 2,
+        Level::Deep => 3,
+    }
+}
+
+pub fn show(after: After) -> Ledger {
+    let answer = after.answer;
+    put_answer(answer);
+    let ledger = after.ledger;
+    let level = ledger.level;
+    put(ledger.at as u64);
+    put(ledger.owed as u64);
+    put(ledger.since as u64);
+    put(ledger.skipped as u64);
+    io::print_decimal(STDOUT_FILENO, depth(level));
+    io::write_all(STDOUT_FILENO, b"\n");
+    ledger
+}
+
+pub fn effect(counted: bool, level: Level) -> Effect {
+    Effect { counted, level }
+}
+
+pub fn moves(ledger: Ledger, to: u32) -> Ledger {
+    show(ledger::moved(ledger, card::bench(), to))
+}
+
+pub fn enters(ledger: Ledger, stamp: u32, counted: bool, level: Level) -> Ledger {
+    show(ledger::entered(ledger, card::bench(), stamp, effect(counted, level)))
+}
+
+// An entry that is no counted refresh leaves the part at a level; a refresh leaves it awake. The ledger then, with no line.
+pub fn comes(ledger: Ledger, stamp: u32, level: Level) -> Ledger {
+    ledger::entered(ledger, card::bench(), stamp, effect(false, level)).ledger
+}
+
+pub fn refreshed(ledger: Ledger, stamp: u32) -> Ledger {
+    ledger::entered(ledger, card::bench(), stamp, effect(true, Level::Awake)).ledger
+}

@@ -1,0 +1,42 @@
+-- Which cycles are counted (document 02, One), and the account of a past: over the counted cycles, by their numbers.
+use Prim.Native.Nat.{ℕ, zero, suc, _+_}
+use mathlib.Core.Bool.{Bool, cond, not}
+use mathlib.Core.List.{List, [], _∷_, map}
+use lib.Dec.{ltb}
+use Rattle.rules.specs.Card.{Card}
+use Rattle.rules.specs.Units.{interval}
+use Rattle.rules.specs.Levels.{Level, awake, stopped}
+use Rattle.rules.specs.Past.{Past, levelAt, countedStamps}
+use Rattle.rules.specs.Account.{Schedule, Beat, every, steady, Book}
+
+-- the level before cycle t: after the entries below it
+unfoldable pub levelBelow : ℕ → Past → Level
+levelBelow t [] = awake
+levelBelow t (e ∷ p) = cond (ltb (e .stamp) t) (levelAt (e ∷ p)) (levelBelow t p)
+
+-- not counted are the cycles after a self-refresh entry up to and including its exit, and all after a deep power-down entry
+unfoldable pub counts : Past → ℕ → Bool
+counts past t = not (stopped (levelBelow t past))
+
+-- how many of the n cycles from cycle a on are counted
+unfoldable pub countedFrom : Past → (a n : ℕ) → ℕ
+countedFrom past a zero = 0
+countedFrom past a (suc n) = countedFrom past a n + cond (counts past (a + n)) 1 0
+
+-- the number of cycle t: cycle 0 is 0, and each counted cycle after it one more
+unfoldable pub clock : Past → ℕ → ℕ
+clock past t = countedFrom past 1 t
+
+-- the dues, by number: the positive multiples of I
+unfoldable pub beatOf : Card → Beat
+beatOf card = every (interval card)
+
+unfoldable pub scheduleOf : Card → Past → Schedule
+scheduleOf card past = steady (beatOf card)
+
+unfoldable pub bookOf : Card → Past → Book
+bookOf card past = record { schedule = scheduleOf card past; clock = clock past; refreshes = map (clock past) (countedStamps past) }
+
+-- those that 11 looks at
+unfoldable pub booksOf : Card → Past → List Book
+booksOf card past = bookOf card past ∷ []
