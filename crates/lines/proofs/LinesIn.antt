@@ -1,7 +1,7 @@
 -- A line from parts that are put over one another, and the lines of entries that stand one behind the other, one more at a time.
 use Prim.Native.Nat.{ℕ, zero, suc, _+_, _*_, _-_, _%_, _^_, _≤_, _<_}
 use mathlib.Core.Path.{_≡_, refl, sym, ap, _∙_}
-use mathlib.Core.Bool.{Bool, true, false, cond, _||_}
+use mathlib.Core.Bool.{Bool, true, false, _||_}
 use mathlib.Core.List.{List, _++_, append-assoc, append-nil}
 use native.Mathlib.Numerals.{add-one}
 use native.Mathlib.Omega.{arith}
@@ -11,17 +11,16 @@ use lib.Seq.{drop-drop}
 use borrow.Author.Tests.{leb-false, eqb-false}
 use Rattle.rules.specs.Commands.{Command}
 use Rattle.rules.specs.Pins.{decode}
-use Rattle.rules.specs.Levels.{Level, awake, Move, sameLevel, levelAfter, Read, plain, readPins}
+use Rattle.rules.specs.Levels.{Level, awake, powerDown, selfRefresh, deep, Move, levelAfter, Read, plain, readPins}
 use Rattle.rules.specs.Entries.{commandOf, recordedAs, moveOf}
 use Rattle.pins.specs.declared.Front.{Front}
 use Rattle.pins.specs.Counter.{counterOn}
 use Rattle.pins.specs.Fronts.{frontOf}
 use Rattle.pins.proofs.Fronts.{front-first}
-use Rattle.pins.proofs.Asleep.{awake-only}
 use Rattle.lines.specs.declared.runs.Next.{Next}
 use Rattle.lines.specs.declared.stamps.Lead.{Lead}
 use Rattle.lines.specs.Written.{Put}
-use Rattle.lines.specs.Quick.{lastFour, highAt, LeadGood, TailFits, tailPart, TailOn}
+use Rattle.lines.specs.Quick.{lastFour, highAt, levelWith, LeadGood, TailFits, tailPart, TailOn}
 use Rattle.lines.specs.Runs.{Standing, standing, standingAfter, standingOf, lineOn, lineAt, nextAt, linesAt, standsAt, Added}
 use Rattle.lines.proofs.Puts.{then, over, under, within, put-size}
 use Rattle.lines.proofs.Leading.{lead-digits}
@@ -74,13 +73,34 @@ quick-test lead stamp rest tail good e t =
     (h, omega arith, omega arith)
 
 -- awake alone pins have a tail
-pub high-awake : (l : Level) (high : ℕ) → high ≡ highAt l → high < 4096 → (l ≡ awake) × (high ≡ 2)
-unfolding highAt
-high-awake l high e h = go (sameLevel awake l) refl e
+pub high-awake : (high : ℕ) → high ≡ highAt (levelWith high) → high < 4096 → (levelWith high ≡ awake) × (high ≡ 2)
+high-awake high e h = go (levelWith high) e
   where
-    go : (b : Bool) → sameLevel awake l ≡ b → high ≡ cond b 2 4096 → (l ≡ awake) × (high ≡ 2)
-    go true w e = (awake-only l w, e)
-    go false w e = absurd (omega arith)
+    go : (l : Level) → high ≡ highAt l → (l ≡ awake) × (high ≡ 2)
+    go awake e = (refl, unfold highAt in e)
+    go powerDown e = absurd (never (unfold highAt in e))
+      where
+        never : high ≡ 4096 → ⊥
+        never e = omega arith
+    go selfRefresh e = absurd (never (unfold highAt in e))
+      where
+        never : high ≡ 4097 → ⊥
+        never e = omega arith
+    go deep e = absurd (never (unfold highAt in e))
+      where
+        never : high ≡ 4098 → ⊥
+        never e = omega arith
+
+-- the level that was kept
+level-back : (l : Level) → levelWith (highAt l) ≡ l
+unfolding levelWith highAt
+level-back awake = refl
+level-back powerDown = refl
+level-back selfRefresh = refl
+level-back deep = refl
+
+pub level-kept : (high : ℕ) (l : Level) → high ≡ highAt l → (levelWith high ≡ l) × (high ≡ highAt (levelWith high))
+level-kept high l e = let k = ap levelWith e ∙ level-back l in (k, e ∙ ap highAt (sym k))
 
 -- ---- what it is, and what stands behind it
 pub after-line : (r : Read) (l : Level) (n : ℕ) {l′ : Level} {n′ : ℕ} {c : Command} {m : Move} → c ≡ recordedAs r → m ≡ moveOf r → l′ ≡ levelAfter m l → n′ ≡ counterOn c m n

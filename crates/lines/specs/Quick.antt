@@ -3,11 +3,11 @@ use Prim.Native.Nat.{ℕ, _+_, _*_, _-_, _/_, _%_, _≤_, _<_}
 use mathlib.Core.Path.{_≡_}
 use mathlib.Core.Bool.{Bool, cond}
 use mathlib.Core.List.{List, [], _∷_, _++_}
-use lib.Dec.{leb}
+use lib.Dec.{leb, eqb}
 use lib.ListN.{length, getD, take, drop, set}
 use Rattle.rules.specs.Commands.{Command}
 use Rattle.rules.specs.Pins.{decode}
-use Rattle.rules.specs.Levels.{Level, awake, sameLevel, stays, plain, readPins}
+use Rattle.rules.specs.Levels.{Level, awake, powerDown, selfRefresh, deep, stays, plain, readPins}
 use Rattle.rules.specs.Entries.{commandOf}
 use Rattle.rules.specs.Lines.{decimal}
 use Rattle.pins.specs.Counter.{counterOn}
@@ -69,9 +69,15 @@ pub record TailGood (c : Command) (tail : List ℕ) (mark : ℕ) : Type 0 where
   pub text : (counter : ℕ) → tailPart tail mark ≡ namePart c ++ bankPart c counter ++ (10 ∷ [])
   pub still : (counter : ℕ) → counterOn c stays counter ≡ counter
 
--- what the pins from CS_n up must be for a tail: clock enable high and CS_n low, awake; no pins have any other one
+-- what the pins from CS_n up must be for a tail: clock enable high and CS_n low, awake; no pins have any of the others. The level is told by it
 unfoldable pub highAt : Level → ℕ
-highAt l = cond (sameLevel awake l) 2 4096
+highAt awake = 2
+highAt powerDown = 4096
+highAt selfRefresh = 4097
+highAt deep = 4098
+
+unfoldable pub levelWith : ℕ → Level
+levelWith h = cond (eqb h 4096) powerDown (cond (eqb h 4097) selfRefresh (cond (eqb h 4098) deep awake))
 
 -- it is that of the command on the pins, and awake they are read as that command
 pub record TailOn (p : ℕ) (tail : List ℕ) (mark : ℕ) : Type 0 where

@@ -7,11 +7,10 @@ use lib.ListN.{drop}
 use Rattle.rules.specs.Levels.{Level, Read, levelAfter, readPins}
 use Rattle.rules.specs.Entries.{recordedAs, moveOf}
 use Rattle.rules.specs.Lines.{entryLine}
-use Rattle.pins.specs.Values.{levelOf}
 use Rattle.pins.specs.Fronts.{frontOf}
 use Rattle.pins.specs.Counter.{counterOn}
 use Rattle.lines.specs.Written.{Put}
-use Rattle.lines.specs.Quick.{highAt, LeadGood}
+use Rattle.lines.specs.Quick.{highAt, levelWith, LeadGood}
 use Rattle.lines.specs.declared.runs.Next.{Next}
 
 -- what the line of an entry goes by, beside its bytes
@@ -54,11 +53,11 @@ abbrev pub lineCount : (count bytes room : ℕ) → ℕ
 lineCount c b r = min c (min (b / 10) ((r - 40) / 24))
 
 abbrev pub standingOf : Next → Standing
-standingOf x = standing (levelOf (x .level)) (x .counter)
+standingOf x = standing (levelWith (x .high)) (x .counter)
 
--- what is kept of the level
+-- what is kept of the level is one of the four
 abbrev pub HighGood : Next → Type 0
-HighGood x = x .high ≡ highAt (levelOf (x .level))
+HighGood x = x .high ≡ highAt (levelWith (x .high))
 
 -- one line more
 pub record Added (sleeps : Bool) (x : Next) (stamp pins : ℕ) (old new : List ℕ) (y : Next) : Type 0 where

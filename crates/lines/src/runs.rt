@@ -15,14 +15,14 @@ use crate::stamps::lead_of;
 use crate::stamps::renewed;
 use crate::tails::bank_digit;
 use crate::tails::high_of;
+use crate::tails::level_with;
 use crate::tails::tail_on;
 use crate::text::put_text;
 use pins::Level;
 
-// What is kept from line to line: the place of the next, the level, with what the pins of a tail are there, the round counter, and the first digits of a stamp.
+// What is kept from line to line: the place of the next, what the pins of a tail are at the level, the round counter, and the first digits of a stamp.
 pub struct Next {
     pub at: usize,
-    pub level: Level,
     pub high: u32,
     pub counter: u8,
     pub lead: Lead,
@@ -49,7 +49,7 @@ fn put_plain(out: &mut [u8], next: Next, sleeps: bool, stamp: u32, pins: u32) ->
     requires { ⌜ (next .at + 64 ≤ length (now out)) × LeadGood (next .lead) ⌝ }
     ensures { λ r. ⌜ Added sleeps next stamp pins (now (out .entry)) (now (out .exit)) r ⌝ }
 {
-    let level = next.level;
+    let level = level_with(next.high);
     let counter = next.counter;
     let lead = next.lead;
     let read = pins::read_pins(sleeps, level, pins);
@@ -59,7 +59,6 @@ fn put_plain(out: &mut [u8], next: Next, sleeps: bool, stamp: u32, pins: u32) ->
     let end = put_line(out, next.at, stamp, command, counter);
     Next {
         at: end,
-        level: then,
         high: high_of(then),
         counter: pins::counter_after(counter, command, moved),
         lead: renewed(lead, stamp),
@@ -86,10 +85,8 @@ fn put_entry(
     }
     let four = last_four(rest, pairs);
     let end = put_quick(out, next.at, lead, four, tail, bank_digit(pins));
-    let level = next.level;
     Next {
         at: end,
-        level: level,
         high: next.high,
         counter: next.counter,
         lead: lead,
@@ -131,7 +128,6 @@ pub fn entry_lines(
     let pairs = PAIRS;
     let mut next = Next {
         at: 0,
-        level: level,
         high: high_of(level),
         counter: counter,
         lead: lead_of(1),

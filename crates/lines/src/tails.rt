@@ -5,7 +5,7 @@ ghost use lib.ListN.{getD};
 ghost use Rattle.rules.specs.Commands.{code};
 ghost use Rattle.rules.specs.Pins.{kindAt};
 ghost use Rattle.pins.specs.Values.{levelOf};
-ghost use Rattle.lines.specs.Quick.{highAt, tailAt, TailOn};
+ghost use Rattle.lines.specs.Quick.{highAt, levelWith, tailAt, TailOn};
 use pins::Level;
 
 pub fn bank_digit(pins: u32) -> u8
@@ -45,7 +45,28 @@ fn tail_at(key: u32) -> [u8; 8]
 pub fn high_of(level: Level) -> u32
     ensures { λ r. ⌜ r ≡ highAt (levelOf level) ⌝ }
 {
-    if pins::is_awake(level) { 2 } else { 4096 }
+    match level {
+        Level::Awake => 2,
+        Level::PowerDown => 4096,
+        Level::SelfRefresh => 4097,
+        Level::Deep => 4098,
+    }
+}
+
+// The level that it tells.
+pub fn level_with(high: u32) -> Level
+    ensures { λ r. ⌜ levelOf r ≡ levelWith high ⌝ }
+{
+    if high == 4096 {
+        return Level::PowerDown;
+    }
+    if high == 4097 {
+        return Level::SelfRefresh;
+    }
+    if high == 4098 {
+        return Level::Deep;
+    }
+    Level::Awake
 }
 
 // None where they are others, or where it is another command, or none.

@@ -11,7 +11,7 @@ use Rattle.lines.specs.Runs.{standing, standingOf, linesAt, standsAt, li
 use Rattle.lines.specs.Quick.{LeadGood}
 use Rattle.lines.proofs.Puts.{lined}
 use Rattle.lines.proofs.Leading.{pairs-good}
-use Rattle.lines.proofs.LinesIn.{lines-none, stands-none, lines-next}
+use Rattle.lines.proofs.LinesIn.{level-kept, lines-none, stands-none, lines-next}
 use Rattle.lines.proofs.runs.entry_lines.Statement.{statement}
 use Rattle.lines.proofs.runs.entry_lines.Tie as tie
 
@@ -23,7 +23,7 @@ abbrev μ-loop : tie.MeasureT-loop
 μ-loop out₀ bytes count sleeps counter n pairs next₀ i₀ out next i = n - i
 
 loop-holds : tie.Need-loop-holds Inv-loop μ-loop
-loop-holds c = (lines-none _ _ _ _, stands-none _ _ _, omega arith, omega arith, c .lead-of .ensures, refl, c .before .high-of .ensures)
+loop-holds c = (lines-none _ _ _ _, stands-none _ _ _, omega arith, omega arith, c .lead-of .ensures, refl, level-kept _ _ (c .before .high-of .ensures) .1)
 
 mul-at : tie.Need-mul-at Inv-loop μ-loop
 mul-at c = omega arith
@@ -63,7 +63,7 @@ loop-again c =
     let w = l .inv in
     let x = c .before .before .put-entry .ensures in
     let ten : 10 * l .i + 10 - 10 * l .i ≡ 10 = omega arith in
-    let more = lines-next (a .sleeps) (l .i) (standing (levelOf (a .level)) (a .counter)) (a .bytes .now) (f .entry-at .result) (rw ten at (f .entry-at .ensures)) (omega arith) (w .0) (w .1) x in
+    let more = lines-next (a .sleeps) (l .i) (standing _ (a .counter)) (a .bytes .now) (f .entry-at .result) (rw ten at (f .entry-at .ensures)) (omega arith) (w .0) (w .1) x in
     (more .0, more .1, omega arith, omega (arith, x .small, w .3), x .lead, omega (arith, w .5), x .high)
 
 same-length : tie.Need-same-length Inv-loop μ-loop
@@ -74,7 +74,8 @@ returns c =
     let w = c .before .loop .inv in
     let a = c .before .before .before .before .before .before .before .before .before .args in
     let e : c .before .loop .i ≡ lineCount (a .count) (length (a .bytes .now)) (length (a .out .now)) = omega (arith, w .2) in
-    rw e at (lined (w .5) (w .0))
+    let k = level-kept _ (levelOf (a .level)) (c .before .before .before .high-of .ensures) .0 in
+    rw (e, k) at (lined (w .5) (w .0))
 
 pub entry-lines-spec : {M : Type 1} → statement M
 entry-lines-spec =

@@ -4,7 +4,7 @@ use mathlib.Core.Path.{_≡_}
 use lib.ListN.{getD}
 use borrow.Author.Needs.{needs}
 use Rattle.rules.specs.Levels.{awake}
-use Rattle.pins.specs.Values.{levelOf}
+use Rattle.lines.specs.Quick.{levelWith}
 use Rattle.lines.proofs.Puts.{put-as}
 use Rattle.lines.proofs.LinesIn.{quick-test, high-awake, quick-line, quick-after}
 use Rattle.lines.proofs.runs.put_entry.Statement.{statement}
@@ -22,11 +22,11 @@ told c =
     quick-test (s .args .next .lead) (s .args .stamp) (w .result) (t .tail-on .result) (s .pre .1) (w .ensures) (c .if1 .left)
 
 -- and of the level
-told-high : (c : tie.Else1) → let s = c .before .before .before .before .before in (levelOf (s .args .next .level) ≡ awake) × (s .args .next .high ≡ 2)
+told-high : (c : tie.Else1) → let s = c .before .before .before .before .before in (levelWith (s .args .next .high) ≡ awake) × (s .args .next .high ≡ 2)
 told-high c =
     let t = c .before in
     let s = t .before .before .before .before in
-    high-awake _ _ (s .pre .3) (t .tail-on .ensures (told c .1) .1)
+    high-awake _ (s .pre .3) (t .tail-on .ensures (told c .1) .1)
 
 last-four-requires : tie.Need-last-four-requires
 last-four-requires c κs = (told c .0, c .before .before .before .before .before .pre .2)

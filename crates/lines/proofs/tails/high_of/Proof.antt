@@ -1,16 +1,26 @@
--- By whether it is awake.
 use borrow.Author.Needs.{needs}
+use Rattle.pins.specs.Values.{levelOf}
 use Rattle.lines.specs.Quick.{highAt}
 use Rattle.lines.proofs.tails.high_of.Statement.{statement}
 use Rattle.lines.proofs.tails.high_of.Tie as tie
 
 returns : tie.Need-returns
-unfolding highAt
-returns c = rw (← c .before .is-awake .ensures, c .if1 .taken)
+unfolding highAt levelOf
+returns c = cc
 
 returns-2 : tie.Need-returns-2
-unfolding highAt
-returns-2 c = rw (← c .before .is-awake .ensures, c .if1 .left)
+unfolding highAt levelOf
+returns-2 c = cc
+
+returns-3 : tie.Need-returns-3
+unfolding highAt levelOf
+returns-3 c = cc
+
+returns-4 : tie.Need-returns-4
+unfolding highAt levelOf
+returns-4 c = cc
 
 pub high-of-spec : {M : Type 1} → statement M
-high-of-spec = tie.close (tie.spec (λ c κs. search needs) returns returns-2)
+high-of-spec =
+    tie.close
+    (tie.spec (λ c. search needs) (λ c. search needs) (λ c. search needs) (λ c. search needs) returns returns-2 returns-3 returns-4)
