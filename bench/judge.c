@@ -89,24 +89,34 @@ static uint64_t big8(const uint8_t *p)
 /* Kinds by the eight pins that decide them: CA0r to CA4r, CA0f, CS_n, CKE; with CKE low an entry that is taken is NOP. */
 static uint8_t kinds[256];
 
+/* The part that a line ends in. */
+enum ending { NONE, FIRST, SECOND, NEITHER, ENDINGS };
+
 /* What follows the cycle on an entry's line; the ninth column has no bank. */
 static struct tail {
     char text[15];
     uint8_t length;
-} tails[RESERVED][9];
+} tails[ENDINGS][RESERVED][9];
 
 static char pairs[200];
 
-static void tables(void)
+static void set_tail(enum ending e, enum kind k, int b)
 {
     static const char *const names[] = {"NOP", "MRW", "MRR", "REFPB", "REFAB", "ACT",
                                         "RD",  "RDA", "WR",  "WRA",   "PRE",   "PREA"};
+    static const char *const endings[] = {"", " 0", " 1", " -"};
+    struct tail *t = &tails[e][k][b];
+    t->length = (uint8_t)snprintf(t->text, sizeof t->text, " %s %c%s\n", names[k], b < 8 ? '0' + b : '-', endings[e]);
+}
+
+static void tables(void)
+{
     for (uint32_t i = 128; i < 256; i++)
         kinds[i] = (uint8_t)decode((i & 31) | (i >> 5 & 1) << 10 | (i >> 6) << 20);
-    for (int k = 0; k < RESERVED; k++)
-        for (int b = 0; b < 9; b++)
-            tails[k][b].length = (uint8_t)snprintf(tails[k][b].text, sizeof tails[k][b].text, " %s %c\n",
-                                                   names[k], b < 8 ? '0' + b : '-');
+    for (int e = 0; e < ENDINGS; e++)
+        for (int k = 0; k < RESERVED; k++)
+            for (int b = 0; b < 9; b++)
+                set_tail(e, k, b);
     for (int i = 0; i < 100; i++) {
         pairs[2 * i] = (char)('0' + i / 10);
         pairs[2 * i + 1] = (char)('0' + i % 10);
@@ -144,12 +154,12 @@ static inline char *stamp_digits(char *p, uint32_t v)
     return p + length + 4;
 }
 
-static inline void line(uint32_t stamp, enum kind k, unsigned bank)
+static inline void line(uint32_t stamp, enum kind k, unsigned bank, enum ending e)
 {
     if (ROOM - out.n < 32)
         flush();
     bool named = k == REFPB || k == PRE || (k >= ACT && k <= WRA);
-    const struct tail *t = &tails[k][named ? bank : 8];
+    const struct tail *t = &tails[e][k][named ? bank : 8];
     char *p = stamp_digits(out.buf + out.n, stamp);
     memcpy(p, t->text, sizeof t->text);
     out.n = (size_t)(p - out.buf) + t->length;
@@ -163,12 +173,19 @@ static void refused(unsigned number, unsigned rule, uint64_t cycle)
                               in.offset, cycle);
 }
 
-static void accepted(const struct record *r, uint64_t last)
+static void accepted(const struct record *part, uint64_t last)
 {
+    uint64_t commands = part[0].commands, refreshes = part[0].refreshes;
+    char second[32] = "";
+    if (part->card.two) {
+        commands += part[1].commands;
+        refreshes += part[1].refreshes;
+        snprintf(second, sizeof second, " %" PRId64, ledger_at(part + 1, last));
+    }
     if (ROOM - out.n < 128)
         flush();
-    out.n += (size_t)snprintf(out.buf + out.n, 128, "accepted %" PRIu64 " %" PRIu64 " %" PRId64 "\n",
-                              r->commands, r->refreshes, ledger_at(r, last));
+    out.n += (size_t)snprintf(out.buf + out.n, 128, "accepted %" PRIu64 " %" PRIu64 " %" PRId64 "%s\n", commands,
+                              refreshes, ledger_at(part, last), second);
 }
 
 /* The number a field's head is refused with, or 0 where the whole field is at hand. */
@@ -203,6 +220,10 @@ static bool read_value(struct card *c, unsigned tag, const uint8_t *p)
     case 4:
         c->refi = big(p, 4);
         return c->refi >= c->period && c->refi <= 20000000;
+    case 25:
+        c->two = true;
+        c->gap = *p;
+        return !c->sleeps;
     default:
         c->ps[tag - 5] = big(p, 4);
         c->floor[tag - 5] = p[4];
@@ -210,14 +231,22 @@ static bool read_value(struct card *c, unsigned tag, const uint8_t *p)
     }
 }
 
-/* Tags 19 to 22 come all four or not at all. */
+/* The tag that must stand here, behind this one of the card; 0: the card is whole. Tags 19 to 22 come all four or not at
+   all. */
+static unsigned next_tag(unsigned tag)
+{
+    unsigned found = have(1) ? in.buf[in.at] : 0;
+    if (tag < 18 || (tag > 18 && tag < 22) || (tag == 18 && found == 19))
+        return tag + 1;
+    return tag < 25 && found == 25 ? 25 : 0;
+}
+
 static bool read_card(struct card *c)
 {
     static const uint8_t lengths[] = {4, 1, 2, 4};
-    unsigned last = 18;
     memset(c, 0, sizeof *c);
-    for (unsigned tag = 1; tag <= last; tag++) {
-        unsigned length = tag <= 4 ? lengths[tag - 1] : 5;
+    for (unsigned tag = 1; tag; tag = next_tag(tag)) {
+        unsigned length = tag <= 4 ? lengths[tag - 1] : tag == 25 ? 1 : 5;
         bool fits = have(1) && in.buf[in.at] == tag;
         unsigned number = head(fits, length);
         if (!number && !read_value(c, tag, in.buf + in.at + 3))
@@ -227,16 +256,13 @@ static bool read_card(struct card *c)
             return false;
         }
         take(3 + length);
-        if (tag == 18 && have(1) && in.buf[in.at] == 19) {
-            last = 22;
-            c->sleeps = true;
-        }
+        c->sleeps = tag == 22 || c->sleeps;
     }
     return true;
 }
 
 /* Takes entries while whole ones are at hand. False: one was refused, and the verdict is out. */
-static bool entries(struct record *r, bool lines)
+INLINE bool entries_of(struct record *part, bool two, bool lines)
 {
     size_t n = have(ENTRY);
     const uint8_t *p = in.buf + in.at, *start = p, *end = p + n;
@@ -246,14 +272,17 @@ static bool entries(struct record *r, bool lines)
         uint64_t v = big8(p + 2);
         if (p[0] != 32 || p[1] != 0 || v >> 56 != 7)
             break;
-        uint32_t stamp = (uint32_t)(v >> 24), pins = v & 0xFFFFFF;
+        uint32_t stamp = (uint32_t)(v >> 24), all = v & 0xFFFFFF, pins = two ? seen(all) : all;
+        unsigned which = two ? part_of(all) : 0;
         enum kind k = kinds[(pins & 31) | (pins >> 10 & 1) << 5 | (pins >> 20 & 3) << 6];
-        unsigned bank = k == REFPB ? r->counter : bank_bits(pins);
-        good = step(r, k, bank, stamp, pins, &no);
+        if (two && !(all & CS_NS))
+            k = BOTH;
+        unsigned bank = k == REFPB ? part[which].counter : bank_bits(pins);
+        good = step(part, two, which, k, bank, stamp, pins, &no);
         if (!good)
             break;
         if (lines)
-            line(stamp, k, bank);
+            line(stamp, k, bank, !two ? NONE : (all & CS_NS) == CS_NS ? NEITHER : FIRST + which);
     }
     take((size_t)(p - start));
     if (!good)
@@ -261,14 +290,20 @@ static bool entries(struct record *r, bool lines)
     return good;
 }
 
+static bool entries(struct record *part, bool lines)
+{
+    return part->card.two ? entries_of(part, true, lines) : entries_of(part, false, lines);
+}
+
 static void judge(bool lines)
 {
     struct card card;
     if (!read_card(&card))
         return;
-    static struct record r;
-    begin(&r, &card);
-    while (entries(&r, lines)) {
+    static struct record part[2];
+    begin(&part[0], &card);
+    begin(&part[1], &card);
+    while (entries(part, lines)) {
         size_t n = have(ENTRY);
         const uint8_t *p = in.buf + in.at;
         if (n >= ENTRY && p[0] == 32 && big(p + 1, 2) == 7)
@@ -281,7 +316,7 @@ static void judge(bool lines)
         }
         uint32_t last = big(in.buf + in.at + 3, 4);
         struct refusal no;
-        if (!finish(&r, last, &no)) {
+        if (!finish(part, last, &no)) {
             refused(no.number, no.rule, no.cycle);
             return;
         }
@@ -289,7 +324,7 @@ static void judge(bool lines)
         if (have(1))
             refused(12, 0, 0);
         else
-            accepted(&r, last);
+            accepted(part, last);
         return;
     }
 }

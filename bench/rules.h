@@ -1,4 +1,4 @@
-/* The rules of the trace judge, as one incremental record. */
+/* The rules of the trace judge, as one incremental record a part. */
 #ifndef RULES_H
 #define RULES_H
 
@@ -8,7 +8,8 @@
 
 #define INLINE static inline __attribute__((always_inline))
 
-enum kind { NOP, MRW, MRR, REFPB, REFAB, ACT, RD, RDA, WR, WRA, PRE, PREA, RESERVED };
+/* BOTH: both CS_n low, where there are two. */
+enum kind { NOP, MRW, MRR, REFPB, REFAB, ACT, RD, RDA, WR, WRA, PRE, PREA, RESERVED, BOTH };
 
 enum timing {
     tRCD,
@@ -38,6 +39,8 @@ struct card {
     uint32_t period, refi, r;
     uint8_t mr2;
     bool sleeps; /* tags 19 to 22 are there */
+    bool two;    /* tag 25 is there */
+    uint8_t gap;
     uint32_t ps[TIMINGS];
     uint8_t floor[TIMINGS];
 };
@@ -79,6 +82,13 @@ static inline enum kind decode(uint32_t pins)
     return k;
 }
 
+#define CS_NS 0x500000u /* of both parts */
+
+/* Of an entry for two parts: which it is for, and the pins as that part sees them, with its CS_n in bit 20. With both
+   CS_n high it is a NOP, for whichever. */
+INLINE unsigned part_of(uint32_t pins) { return pins >> 20 & 1; }
+INLINE uint32_t seen(uint32_t pins) { return (pins & ~CS_NS) | (pins & pins >> 2 & 0x100000); }
+
 static inline unsigned bank_bits(uint32_t pins) { return pins >> 7 & 7; }
 static inline unsigned ma_bits(uint32_t pins) { return pins >> 4 & 255; }
 static inline unsigned op_bits(uint32_t pins) { return pins >> 12 & 255; }
@@ -92,8 +102,9 @@ struct bank {
     unsigned precharge;
 };
 
+/* What one part's entries leave behind. A trace of two parts has two of them, side by side. */
 struct record {
-    uint64_t next; /* least stamp an entry may have */
+    uint64_t next; /* least stamp an entry may have, to whichever part */
     uint64_t fail; /* first cycle that fails without another counted refresh */
     uint64_t gate; /* greatest of r1, r2, r3, r22, r24 */
     uint64_t r1, r2, r3, r4;
@@ -304,6 +315,19 @@ INLINE unsigned ask(const struct record *r, enum kind k, unsigned bank, uint64_t
     return ask_rest(r, k, bank, t, first);
 }
 
+INLINE uint64_t raised(uint64_t cycle, uint64_t gap) { return cycle ? cycle + gap : 0; }
+
+/* Rules 25 to 27: what the other part had on the bus last, with the delays of its own 12 to 14 raised by the gap. */
+INLINE unsigned ask_bus(const struct record *other, enum kind k, uint64_t t, uint64_t *first)
+{
+    unsigned w = is_write(k);
+    if (k != MRR && (k < RD || k > WRA))
+        return 0;
+    ASK(25, raised(other->r12[w], other->card.gap));
+    ASK(27 - w, raised(other->r14_13[w], other->card.gap));
+    return 0;
+}
+
 /* Likewise for a fall to this level: self-refresh and deep power-down have the delays of a REFab. */
 static unsigned ask_fall(const struct record *r, enum level to, uint64_t t, uint64_t *first)
 {
@@ -491,11 +515,30 @@ static __attribute__((noinline)) bool step_moved(struct record *r, uint64_t t, u
     return true;
 }
 
-/* The rest of a step once its kind is known; inlined once a kind, so that one jump decides it all. */
-INLINE bool step_kind(struct record *r, enum kind k, unsigned bank, uint64_t t, uint32_t pins,
-                      struct refusal *no)
+/* The part whose account fails first; where both fail at one cycle, the first. */
+INLINE const struct record *first_failing(const struct record *part, bool two)
 {
+    return two && part[1].fail < part[0].fail ? part + 1 : part;
+}
+
+/* The part whose account fails at t, if this one is refreshed there; null: none. */
+INLINE const struct record *failing_at(const struct record *part, bool two, const struct record *refreshed, uint64_t t)
+{
+    if (part[0].fail == t && refreshed != part)
+        return part;
+    return two && part[1].fail == t && refreshed != part + 1 ? part + 1 : 0;
+}
+
+/* The rest of a step once its kind is known; inlined once a kind, so that one jump decides it all. */
+INLINE bool step_kind(struct record *part, bool two, unsigned p, enum kind k, unsigned bank, uint64_t t,
+                      uint32_t pins, struct refusal *no)
+{
+    struct record *r = part + p;
     unsigned ma = ma_bits(pins), op = op_bits(pins);
+    if (k == BOTH) {
+        *no = (struct refusal){24, 0, 0};
+        return false;
+    }
     if (k == RESERVED || (k == MRW && !(ma >= 1 && ma <= 3) && ma != 11 && ma != 16 && ma != 17)) {
         *no = (struct refusal){7, 0, 0};
         return false;
@@ -510,55 +553,64 @@ INLINE bool step_kind(struct record *r, enum kind k, unsigned bank, uint64_t t, 
     }
     uint64_t first;
     unsigned rule = ask(r, k, bank, t, &first);
+    if (two && !rule)
+        rule = ask_bus(part + !p, k, t, &first);
     if (rule) {
         *no = (struct refusal){10, rule, first};
         return false;
     }
-    if (t == r->fail && k != REFAB && !(k == REFPB && r->counter == 7)) {
-        *no = (struct refusal){11, r->fail_rule, r->fail};
+    bool counted = k == REFAB || (k == REFPB && r->counter == 7);
+    const struct record *failing = failing_at(part, two, counted ? r : 0, t);
+    if (failing) {
+        *no = (struct refusal){11, failing->fail_rule, t};
         return false;
     }
     note(r, k, bank, pins, t);
+    if (two)
+        part[!p].next = r->next;
     return true;
 }
 
-/* True: accepted and noted. False: refused, the record as it was. */
-static inline bool step(struct record *r, enum kind k, unsigned bank, uint64_t t, uint32_t pins,
-                        struct refusal *no)
+/* An entry of kind k to part p, with the pins as that part sees them. True: accepted and noted. False: refused, the
+   records as they were. */
+INLINE bool step(struct record *part, bool two, unsigned p, enum kind k, unsigned bank, uint64_t t, uint32_t pins,
+                 struct refusal *no)
 {
-    if (t < r->next) {
+    const struct record *failing = first_failing(part, two);
+    if (t < part->next) {
         *no = (struct refusal){5, 0, 0};
         return false;
     }
-    if (t > r->fail) {
-        *no = (struct refusal){11, r->fail_rule, r->fail};
+    if (t > failing->fail) {
+        *no = (struct refusal){11, failing->fail_rule, failing->fail};
         return false;
     }
-    if (pins >> 21 != r->steady)
-        return step_moved(r, t, pins, no);
+    if (pins >> 21 != part->steady)
+        return step_moved(part, t, pins, no);
     switch (k) {
     case ACT:
-        return step_kind(r, ACT, bank, t, pins, no);
+        return step_kind(part, two, p, ACT, bank, t, pins, no);
     case RD:
     case RDA:
     case WR:
     case WRA:
-        return step_kind(r, k, bank, t, pins, no);
+        return step_kind(part, two, p, k, bank, t, pins, no);
     case PRE:
-        return step_kind(r, PRE, bank, t, pins, no);
+        return step_kind(part, two, p, PRE, bank, t, pins, no);
     default:
-        return step_kind(r, k, bank, t, pins, no);
+        return step_kind(part, two, p, k, bank, t, pins, no);
     }
 }
 
 /* True: the trace may end at this cycle. */
-static inline bool finish(const struct record *r, uint64_t end, struct refusal *no)
+static inline bool finish(const struct record *part, uint64_t end, struct refusal *no)
 {
+    const struct record *failing = first_failing(part, part->card.two);
     *no = (struct refusal){0, 0, 0};
-    if (end + 1 < r->next)
+    if (end + 1 < part->next)
         no->number = 5;
-    else if (end >= r->fail)
-        *no = (struct refusal){11, r->fail_rule, r->fail};
+    else if (end >= failing->fail)
+        *no = (struct refusal){11, failing->fail_rule, failing->fail};
     return !no->number;
 }
 

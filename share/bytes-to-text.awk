@@ -1,8 +1,5 @@
 # Bytes to text, behind form.awk. Reads a trace as `od -An -v -tu1` prints it. A field is read where it may come; from the first byte that fits
-# nowhere on, all is raw. A card that is not whole is raw too, with its fields in comments: the text form wants all values of a card or none, and so for the values
-# of a part that sleeps.
-
-BEGIN { due = 1 }
+# nowhere on, all is raw. A card that is not whole is raw too, with its fields in comments: the text form wants all values of a group or none.
 
 {
     for (i = 1; i <= NF; i++)
@@ -18,10 +15,10 @@ END {
         put_raw("the file ends here")
 }
 
-# One byte more. Bytes not yet written are b[1] to b[n], and before them `held` card fields; due: the card tag that may come, FULL + 1 where none may.
+# One byte more. Bytes not yet written are b[1] to b[n], and before them `held` card fields; last: the tag of the field before.
 function take(byte) {
     b[++n] = byte
-    if (!lost && n == 1 && !may_come(byte))
+    if (!lost && n == 1 && (ended || !may_follow(last + 0, byte)))
         lose("a tag that may not come here")
     if (!lost && n == 3 && number_at(b, 2, 2) != SIZE[b[1]])
         lose("a length other than the listed one")
@@ -31,34 +28,29 @@ function take(byte) {
         put_raw("")
 }
 
-function may_come(tag) {
-    if (tag == ENTRY || tag == LAST)
-        return due > CARD && !held && !ended
-    return tag == due && due <= FULL
-}
-
 function put_field() {
-    if (b[1] == due)
+    last = b[1]
+    if (last in GROUP)
         hold_field()
     else {
-        print field_text(b, cke)
-        if (b[1] == ENTRY)
-            cke = cke_after(number_at(b, 8, 3), cke)
-        ended = b[1] == LAST
-        due = FULL + 1
+        print field_text(b, mode)
+        if (last == ENTRY)
+            mode = mode_after(number_at(b, 8, 3), mode)
+        ended = last == LAST
     }
     n = 0
 }
 
-function hold_field() {
-    named[due] = field_text(b)
-    bare[due] = raw_text(b, n)
-    held++
-    if (due == CARD || due == FULL)
-        for (; held > 0; held--)
-            print named[due - held + 1]
-    if (due++ == FULL)
-        cke = "high"
+# Keeps a card field until its group is whole.
+function hold_field(    k) {
+    named[++held] = field_text(b)
+    bare[held] = raw_text(b, n)
+    if (!(last in ENDS))
+        return
+    for (k = 1; k <= held; k++)
+        print named[k]
+    held = 0
+    mode = mode_behind(last)
 }
 
 function put_raw(comment) {
@@ -68,13 +60,14 @@ function put_raw(comment) {
 }
 
 # From the bytes at hand on nothing can be read as a field.
-function lose(reason) {
+function lose(reason,    k) {
     lost = 1
     why = reason
-    for (; held > 0; held--) {
-        print bare[due - held] "  # " named[due - held]
+    for (k = 1; k <= held; k++) {
+        print bare[k] "  # " named[k]
         raws++
     }
+    held = 0
     if (reason != "")
         print "# " reason ":"
 }

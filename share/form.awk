@@ -1,18 +1,12 @@
 # The form of a trace: the card's fields by tag, commands and moves of clock-enable on the pins, a field as text. Document 01, "The file" and "Commands on the
-# pins"; document 02, One.
+# pins"; document 02, One and Nine.
 # Numbers of 32 bits are printed by %.0f: %d stops at 2^31 - 1 in some awks.
 
 BEGIN {
-    # a card ends with tag CARD, or with tag FULL where the part may sleep
-    CARD = split("period mr2 groups trefi trcd trppb trpab tras trrd tfaw trtp twr twtr tdqsck trfcab trfcpb tmrr tmrw", NAME, " ")
-    FULL = CARD + split("tcke txp tckesr txsr", SLEEPS, " ")
-    for (tag = CARD + 1; tag <= FULL; tag++)
-        NAME[tag] = SLEEPS[tag - CARD]
-    for (tag = 1; tag <= FULL; tag++) {
-        TAG[NAME[tag]] = tag
-        SIZE[tag] = 5
-    }
-    SIZE[1] = 4; SIZE[2] = 1; SIZE[3] = 2; SIZE[4] = 4
+    group(1, "period mr2 groups trefi trcd trppb trpab tras trrd tfaw trtp twr twtr tdqsck trfcab trfcpb tmrr tmrw")
+    group(19, "tcke txp tckesr txsr")
+    group(25, "gap")
+    SIZE[1] = 4; SIZE[2] = 1; SIZE[3] = 2; SIZE[4] = 4; SIZE[25] = 1
     ENTRY = 32; SIZE[ENTRY] = 7
     LAST = 33; SIZE[LAST] = 4
 
@@ -35,7 +29,7 @@ BEGIN {
     BEFORE["NOP"] = BEFORE["POWER-DOWN"] = BEFORE["SELF-REFRESH"] = BEFORE["DEEP-POWER-DOWN"] = "high"
     BEFORE["ASLEEP"] = BEFORE["WAKE"] = "low"
 
-    # what a command carries, and the most that the pins hold of it
+    # what a command carries, apart from its part, and the most that the pins hold of it
     TAKES["ACT"] = "bank row"
     TAKES["RD"] = TAKES["RDA"] = TAKES["WR"] = TAKES["WRA"] = "bank col"
     TAKES["PRE"] = "bank"
@@ -44,22 +38,59 @@ BEGIN {
     TAKES["PREA"] = TAKES["REFAB"] = TAKES["REFPB"] = TAKES["NOP"] = ""
     for (name in MOVE)
         TAKES[name] = ""
-    MOST["bank"] = 7; MOST["row"] = 32767; MOST["col"] = 4095; MOST["ma"] = MOST["op"] = 255
+    MOST["bank"] = 7; MOST["row"] = 32767; MOST["col"] = 4095; MOST["ma"] = MOST["op"] = 255; MOST["part"] = 1
+}
+
+# Names the card's tags from `first` on, which come all or not at all; those from 1 on must come. GROUP has the first tag of each one's group, ENDS the last
+# tags, TOP is the highest.
+function group(first, names,    name, n, k) {
+    n = split(names, name, " ")
+    for (k = 1; k <= n; k++) {
+        TOP = first + k - 1
+        NAME[TOP] = name[k]
+        TAG[name[k]] = TOP
+        GROUP[TOP] = first
+        SIZE[TOP] = 5
+    }
+    ENDS[TOP] = first
+}
+
+# Whether a field with this tag may stand behind one with tag `last`, 0 at the start of a file.
+function may_follow(last, tag) {
+    if (last < ENTRY && !(last in ENDS))
+        return tag == last + 1
+    return tag == ENTRY || tag == LAST || tag > last && (tag in GROUP) && GROUP[tag] == tag
+}
+
+# How the pins behind a card are read that ends with tag `last`: of "one" part that never sleeps; of one that may, by clock-enable before the entry, "high" or
+# "low"; of "two" parts.
+function mode_behind(last) {
+    return last >= TAG["gap"] ? "two" : last >= TAG["tcke"] ? "high" : "one"
+}
+
+# How they are read behind an entry with these pins.
+function mode_after(p, mode) {
+    return mode != "high" && mode != "low" ? mode : bits(p, 21, 1) ? "high" : "low"
 }
 
 function bits(x, from, count) {
     return int(x / POW[from]) % POW[count]
 }
 
+# The part whose CS_n alone is low, "" where both are high or both low.
+function part_on(p) {
+    return bits(p, 20, 1) == bits(p, 22, 1) ? "" : bits(p, 20, 1)
+}
+
 # The pins of a command that carries v. The names with A for AP or for all banks have one bit more.
-function pins_of(name, v,    kind, p) {
+function pins_of(name, v, mode,    kind, p) {
     if (name in MOVE)
         return MOVE[name]
-    if (name == "NOP")
-        return 3 * POW[20]
+    if (name == "NOP" && v["part"] == "")
+        return (mode == "two" ? 7 : 3) * POW[20]
     kind = name
     sub(/A$/, "", kind)
-    p = POW[21] + CODE[kind]
+    p = POW[21] + CODE[kind] + (v["part"] == "" ? 0 : v["part"] ? POW[20] : POW[22])
     if (kind == "MRW" || kind == "MRR")
         return p + v["ma"] * POW[4] + v["op"] * POW[12]
     if (kind == "ACT")
@@ -91,6 +122,16 @@ function command_on(p, v,    name) {
     return name
 }
 
+# Likewise with two parts: both CS_n high is NOP, of no part.
+function command_of_two(p, v,    name) {
+    split("", v)
+    if (bits(p, 21, 1) == 0 || bits(p, 23, 1) || bits(p, 20, 3) == 2)
+        return "-"
+    name = command_on(p % POW[20] + (part_on(p) == "" ? 3 : 2) * POW[20], v)
+    v["part"] = part_on(p)
+    return name
+}
+
 function command_text(name, v,    n, i, word, text) {
     text = name
     n = split(TAKES[name], word, " ")
@@ -98,51 +139,57 @@ function command_text(name, v,    n, i, word, text) {
         text = text " " (word[i] == "bank" ? "" : word[i] " ")
         text = text (word[i] == "row" ? sprintf("0x%04x", v["row"]) : word[i] == "op" ? sprintf("0x%02x", v["op"]) : v[word[i]])
     }
-    return text
+    return text (v["part"] == "" ? "" : " part " v["part"])
 }
 
-# The name of an entry, with what it carries in v; "-" where it has none. cke is clock-enable before it, "high" or "low", or "" on a card without tcke: there
-# it never falls.
-function name_on(p, cke, v) {
-    if (cke == "" || bits(p, 21, 3) == 1 && (cke == "high" || !bits(p, 20, 1)))
+# The name of an entry, with what it carries in v; "-" where it has none.
+function name_on(p, mode, v) {
+    if (mode == "two")
+        return command_of_two(p, v)
+    if (mode == "one" || bits(p, 21, 3) == 1 && (mode == "high" || !bits(p, 20, 1)))
         return command_on(p, v)
     split("", v)
     if (bits(p, 22, 2))
         return "-"
-    if (cke == "low")
+    if (mode == "low")
         return bits(p, 21, 1) ? "WAKE" : "ASLEEP"
     if (bits(p, 20, 1))
         return "POWER-DOWN"
     return p % 8 == MOVE["SELF-REFRESH"] ? "SELF-REFRESH" : p % 8 == MOVE["DEEP-POWER-DOWN"] ? "DEEP-POWER-DOWN" : "-"
 }
 
-# Clock-enable after an entry with these pins.
-function cke_after(p, cke) {
-    return cke != "high" && cke != "low" ? cke : bits(p, 21, 1) ? "high" : "low"
-}
-
 # What is wrong with the pins of an entry that is called name, if anything is.
-function wrong_with(p, cke, name) {
-    if (cke == "" && bits(p, 21, 3) != 1)
+function wrong_with(p, mode, name) {
+    if (mode == "two")
+        return wrong_with_two(p, name)
+    if (mode == "one" && bits(p, 21, 3) != 1)
         return "bits 21 to 23 are wrong"
     if (bits(p, 22, 2))
         return "bits 22 and 23 are wrong"
-    if (cke == "low" && bits(p, 20, 2) == 2)
+    if (mode == "low" && bits(p, 20, 2) == 2)
         return "clock-enable rises with CS_n low"
-    if (cke == "high" && name == "-" && !bits(p, 21, 1))
+    if (mode == "high" && name == "-" && !bits(p, 21, 1))
         return "clock-enable falls, and the pins name no sleep"
     return name == "-" ? "reserved" : ""
 }
 
+function wrong_with_two(p, name) {
+    if (bits(p, 21, 1) == 0 || bits(p, 23, 1))
+        return "bits 21 and 23 are wrong"
+    if (bits(p, 20, 3) == 2)
+        return "both CS_n are low"
+    return name == "-" ? "reserved, part " part_on(p) : ""
+}
+
 # An entry by its name where the name gives these very pins, else the pins with the name in a comment.
-function pins_text(p, cke,    name, v, text, note, wrong) {
-    name = name_on(p, cke, v)
+function pins_text(p, mode,    name, v, text, note, wrong) {
+    name = name_on(p, mode, v)
     text = sprintf("PINS 0x%06x", p)
-    if (name != "-" && pins_of(name, v) == p)
+    if (name != "-" && pins_of(name, v, mode) == p)
         text = command_text(name, v)
     else if (name != "-")
         note = command_text(name, v) ", with ignored bits set"
-    wrong = wrong_with(p, cke, name)
+    wrong = wrong_with(p, mode, name)
     if (wrong != "")
         note = note (note == "" ? "" : "; ") wrong
     return text (note == "" ? "" : "  # " note)
@@ -161,11 +208,11 @@ function is_field(b, n) {
     return n >= 4 && (b[1] in SIZE) && number_at(b, 2, 2) == SIZE[b[1]] && n >= 3 + SIZE[b[1]]
 }
 
-# The line of text that stands for the field in b, an entry behind clock-enable cke.
-function field_text(b, cke,    tag) {
+# The line of text that stands for the field in b, an entry as the mode reads it.
+function field_text(b, mode,    tag) {
     tag = b[1]
     if (tag == ENTRY)
-        return sprintf("%.0f ", number_at(b, 4, 4)) pins_text(number_at(b, 8, 3), cke)
+        return sprintf("%.0f ", number_at(b, 4, 4)) pins_text(number_at(b, 8, 3), mode)
     if (tag == LAST)
         return sprintf("end %.0f", number_at(b, 4, 4))
     if (NAME[tag] == "mr2")

@@ -2,7 +2,7 @@
 
 BEGIN {
     from = ENVIRON["FROM"]
-    # clock-enable where it is not known: in a text without a card, and behind raw
+    # the mode where it is not known: in a text without a card, and behind raw
     UNKNOWN = "unknown"
     # document 01's bench card
     split("1250 0x1a 8192 3900000 18000/3 18000/3 21000/3 42000/3 10000/2 50000/8 7500/4 15000/4 7500/4 5500/0 130000/0 60000/0 0/4 0/10", BENCH, " ")
@@ -90,7 +90,7 @@ function no_more(words) {
         bad("unknown word " $(words + 1))
 }
 
-function card_line(word,    tag, part) {
+function card_line(word,    tag, both) {
     if (begun)
         bad(carded ? "card values stand before all else" : "a text that begins with raw has no card")
     else if (word != "card") {
@@ -104,9 +104,9 @@ function card_line(word,    tag, part) {
     else if (tolower($2) != "bench")
         bad("card: the only card known by name is bench")
     else {
-        for (tag = 1; tag <= CARD; tag++) {
-            split(BENCH[tag], part, "/")
-            set_value(tag, part[1], part[2])
+        for (tag = 1; tag in BENCH; tag++) {
+            split(BENCH[tag], both, "/")
+            set_value(tag, both[1], both[2])
         }
         no_more(2)
     }
@@ -119,24 +119,25 @@ function set_value(tag, first, second,    size) {
     value[tag] = octal(number(first, (size == 4 ? 4294967296 : POW[8 * size]) - 1, NAME[tag]), size)
     if (SIZE[tag] == 5)
         value[tag] = value[tag] octal(number(second, 255, NAME[tag] ", floor"), 1)
+    wanted[GROUP[tag]] = 1
 }
 
 # Puts the card, before the first line that is none of it.
 function begin(    tag, last, missing) {
     begun = 1
-    cke = UNKNOWN
+    mode = UNKNOWN
     if (!carded && tolower($1) == "raw" && NF > 0)
         return
-    last = CARD
-    for (tag = CARD + 1; tag <= FULL; tag++)
-        if (tag in value)
-            last = FULL
-    cke = last == FULL ? "high" : ""
-    for (tag = 1; tag <= last; tag++) {
+    wanted[1] = 1
+    for (tag = 1; tag <= TOP; tag++) {
+        if (!(tag in GROUP) || !(GROUP[tag] in wanted))
+            continue
         if (!(tag in value))
             missing = missing " " NAME[tag]
         put(octal(tag, 1) octal(SIZE[tag], 2) value[tag])
+        last = tag
     }
+    mode = mode_behind(last)
     if (missing != "")
         bad("the card lacks" missing)
 }
@@ -148,7 +149,8 @@ function raw_line(    i, text) {
         else
             bad("raw: " $i " is no byte of two hexadecimal digits")
     put(text)
-    cke = UNKNOWN
+    if (mode != "two")
+        mode = UNKNOWN
     if (behind != "end")
         behind = "raw"
 }
@@ -168,16 +170,18 @@ function entry_line(    stamp, name, pins) {
     }
     put(octal(ENTRY, 1) octal(SIZE[ENTRY], 2) octal(stamp, 4) octal(pins, 3))
     if (level_good(name))
-        cke = cke_after(pins, cke)
+        mode = mode_after(pins, mode)
 }
 
 # A fall, a rise, an entry asleep and NOP stand where clock-enable makes them that, else they move nothing. A command asleep is the judge's to refuse.
 function level_good(name) {
-    if (name in MOVE && cke == "")
+    if (name in MOVE && mode == "one")
         bad(name ": the card lacks tcke txp tckesr txsr")
-    else if (name in BEFORE && BEFORE[name] == "low" && cke == "high")
+    else if (name in MOVE && mode == "two")
+        bad(name ": a card with gap has no sleep")
+    else if (name in BEFORE && BEFORE[name] == "low" && mode == "high")
         bad(name ": the part is awake")
-    else if (name in BEFORE && BEFORE[name] == "high" && cke == "low")
+    else if (name in BEFORE && BEFORE[name] == "high" && mode == "low")
         bad(name ": the part is asleep, which wants ASLEEP or WAKE")
     else
         return 1
@@ -191,10 +195,8 @@ function named_pins(name,    i, word, v) {
         v["bank"] = number($(i++), MOST["bank"], "bank")
     for (; i <= NF; i += 2) {
         word = tolower($i)
-        if (word == "bank" || index(" " TAKES[name] " ", " " word " ") == 0) {
-            bad(name " takes " (TAKES[name] == "" ? "nothing" : TAKES[name]) ", not " $i)
-            return pins_of(name, v)
-        }
+        if (!may_carry(name, $i))
+            return pins_of(name, v, mode)
         if (word in v)
             bad(word " is given twice")
         v[word] = number($(i + 1), MOST[word], word)
@@ -203,7 +205,25 @@ function named_pins(name,    i, word, v) {
         bad(name ": ma is missing")
     if (name == "MRW" && !("op" in v))
         bad(name ": op is missing")
+    if (mode == "two" && name != "NOP" && !(name in MOVE) && !("part" in v))
+        bad(name ": part is missing, 0 or 1")
     if (v["col"] % 2 == 1)
         bad("col: an odd column has no place on the pins")
-    return pins_of(name, v)
+    return pins_of(name, v, mode)
+}
+
+# Whether the command carries what the word says; a part where there are two, or may be.
+function may_carry(name, typed,    word, all) {
+    word = tolower(typed)
+    all = TAKES[name] (mode == "two" && !(name in MOVE) ? " part" : "")
+    sub(/^ /, "", all)
+    if (word == "part" && mode == UNKNOWN && !(name in MOVE))
+        return 1
+    if (word != "bank" && index(" " all " ", " " word " "))
+        return 1
+    if (word == "part" && mode != "two" && !(name in MOVE))
+        bad("part: the card lacks gap, so there is one part")
+    else
+        bad(name " takes " (all == "" ? "nothing" : all) ", not " typed)
+    return 0
 }

@@ -9,10 +9,10 @@
 END {
     if (count != 3 || tail[2] != "" || tail[3] != "ended 0")
         exit 2
-    if (tail[1] !~ /^accepted [0-9]+ [0-9]+ -?[0-9]+$/ && tail[1] !~ /^refused [0-9]+ [0-9]+ [0-9]+ [0-9]+$/)
+    if (tail[1] !~ /^accepted [0-9]+ [0-9]+ -?[0-9]+( -?[0-9]+)?$/ && tail[1] !~ /^refused [0-9]+ [0-9]+ [0-9]+ [0-9]+$/)
         exit 2
     print tail[1]
-    split(tail[1], verdict, " ")
+    numbers = split(tail[1], verdict, " ") - 1
     if (ENVIRON["TRACE"] != "" && verdict[1] == "refused")
         explain_refusal(verdict[2], verdict[3] + 0, verdict[4] + 0, verdict[5])
     if (ENVIRON["TRACE"] != "" && verdict[1] == "accepted")
@@ -38,100 +38,120 @@ function read_bytes(offset, count, b,    command, line, n, m, i, part) {
     return n + 0
 }
 
+# Two ledgers are those of two parts.
 function explain_counts(    k, text) {
     read_words()
-    for (k = 1; k <= 3; k++)
-        text = text (k > 1 ? ", " : "") verdict[k + 1] " " says["accepted " k]
+    for (k = 1; k <= numbers; k++)
+        text = text (k > 1 ? ", " : "") verdict[k + 1] " " says["accepted " k (numbers > 3 && k > 2 ? " of two" : "")]
     print "why    " text
 }
 
-function explain_refusal(number, rule, offset, cycle,    b, n, last, at, tag, cke) {
+function explain_refusal(number, rule, offset, cycle,    b, n, mode, due) {
     read_words()
     print "why    " number ": " says["number " number]
-    last = last_tag(offset)
+    read_card(offset)
+    mode = mode_before(offset)
     if (rule > 0)
-        explain_rule(rule, last)
-    if (last == FULL && ("sleep " number) in says)
-        print "sleep  " says["sleep " number]
-    n = read_bytes(offset, 10, b)
-    for (tag = 1; tag <= last && at < offset; tag++)
-        at += 3 + SIZE[tag]
-    cke = last == FULL ? cke_before(offset, at) : ""
-    print "where  " place(number, offset, tag, last, at, b[1]) sprintf(", at byte %.0f: ", offset) standing(b, n, cke)
-    if (tag <= last)
-        print "field  " NAME[tag] ": " says["field " tag]
+        explain_rule(rule)
+    explain_mode(number, mode)
+    n = read_bytes(offset, 3 + SIZE[ENTRY], b)
+    due = card_tag(offset, b[1])
+    print "where  " place(number, offset, due, b[1]) sprintf(", at byte %.0f: ", offset) standing(b, n, mode)
+    if (due)
+        print "field  " NAME[due] ": " says["field " due]
     else if (number != 12 && is_field(b, n) && b[1] == ENTRY)
-        explain_entry(name_on(number_at(b, 8, 3), cke))
+        explain_entry(number, rule, offset, cycle, number_at(b, 8, 3), mode)
+    if (mode == "two" && number == 11)
+        explain_account(offset, cycle, b)
     if (number == 4 || number == 9)
-        print "range  " says["range " (number == 9 ? TAG["mr2"] : tag < 5 ? tag : 5)]
+        print "range  " says["range " (number == 9 ? TAG["mr2"] : SIZE[due] == 5 ? 5 : due)]
     if (rule > 0)
         print "cycle  " cycle ": " says["cycle " number]
 }
 
-# The tag that the card ends with: FULL as soon as the first of the fields for sleep stands behind tag CARD, and the judge came that far.
-function last_tag(offset,    b) {
-    if (offset < card_bytes(CARD))
-        return CARD
-    read_bytes(card_bytes(CARD), 1, b)
-    return b[1] == CARD + 1 ? FULL : CARD
+# Takes the card's fields before the offset: `size` bytes of them, the last one with tag `last`, their text in value.
+function read_card(offset,    b, field, k) {
+    read_bytes(0, 8 * TOP, b)
+    size = last = 0
+    while (size < offset && b[size + 1] in GROUP) {
+        last = b[size + 1]
+        for (k = 1; k <= 3 + SIZE[last]; k++)
+            field[k] = b[size + k]
+        value[NAME[last]] = field_text(field)
+        size += 3 + SIZE[last]
+    }
 }
 
-# How many bytes a card takes that ends with tag `last`.
-function card_bytes(last,    tag, size) {
-    for (tag = 1; tag <= last; tag++)
-        size += 3 + SIZE[tag]
-    return size
+# The tag of the card field that stands at the offset or is missing there; 0 where none is.
+function card_tag(offset, first) {
+    if (offset > size)
+        return 0
+    if (!(last in ENDS))
+        return last + 1
+    return first in GROUP && may_follow(last, first) ? first : 0
 }
 
-# Clock-enable before the entry at the offset, behind a card of `at` bytes: as the entry before it left it.
-function cke_before(offset, at,    b) {
-    if (offset < at + 3 + SIZE[ENTRY])
-        return "high"
+# How the pins at the offset are read; clock-enable is as the entry before left it.
+function mode_before(offset,    b, mode) {
+    mode = mode_behind(last)
+    if (mode != "high" || offset < size + 3 + SIZE[ENTRY])
+        return mode
     read_bytes(offset - 3 - SIZE[ENTRY], 3 + SIZE[ENTRY], b)
-    return cke_after(number_at(b, 8, 3), "high")
+    return mode_after(number_at(b, 8, 3), mode)
 }
 
-function explain_entry(name) {
+# What a verdict means besides where a part may sleep, or where there are two.
+function explain_mode(number, mode) {
+    if ((mode == "high" || mode == "low") && ("sleep " number) in says)
+        print "sleep  " says["sleep " number]
+    if (mode == "two" && ("parts " number) in says)
+        print "parts  " says["parts " number]
+}
+
+# An entry with pins p is refused.
+function explain_entry(number, rule, offset, cycle, p, mode,    name) {
+    name = name_on(p, mode)
     if (("entry " name) in says)
         print "entry  " name ": " says["entry " name]
+    if (mode == "two" && number != 6 && number != 11 && part_on(p) != "")
+        print "part   " part_on(p) ": " says["part entry"]
+    if (number == 10 && rule >= 25)
+        explain_wait(source_of(rule, offset, p), cycle)
 }
 
-# What begins at the offset: a card field by its tag, or what comes behind the card, which is `at` bytes long and ends with tag `last`.
-function place(number, offset, tag, last, at, first) {
-    if (tag <= last)
-        return (first == tag ? "" : "in the place of ") "field " tag " of the card's " last
+# What begins at the offset: a card field with tag `due`, or what comes behind the card.
+function place(number, offset, due, first) {
+    if (due)
+        return (first == due ? "" : "in the place of ") "tag " due " of the card"
     if (number == 12)
         return "behind the end field"
     if (first == LAST)
         return "the end field"
-    return sprintf("%sentry %.0f of the trace, counted from 1", first == ENTRY ? "" : "in the place of ", (offset - at) / (3 + SIZE[ENTRY]) + 1)
+    return (first == ENTRY ? "" : "in the place of ") entry_number(offset) ", counted from 1"
 }
 
-function standing(b, n, cke) {
-    return n == 0 ? "the file ends" : is_field(b, n) ? field_text(b, cke) : raw_text(b, n)
+function entry_number(offset) {
+    return sprintf("entry %.0f of the trace", (offset - size) / (3 + SIZE[ENTRY]) + 1)
 }
 
-# The rule, and what the terms n(..) and i(..) in it come to on this card, which ends with tag `last`.
-function explain_rule(number, last,    rest, text) {
+function standing(b, n, mode) {
+    return n == 0 ? "the file ends" : is_field(b, n) ? field_text(b, mode) : raw_text(b, n)
+}
+
+# The rule, and what the terms n(..) and i(..) in it come to on this card, and the gap.
+function explain_rule(number,    rest, text) {
     rest = says["rule " number]
     print "rule   " number ": " rest
-    read_card(last)
     while (match(rest, /[ni]\([a-z +]*\)/)) {
         text = text "; " in_clocks(substr(rest, RSTART, RLENGTH))
         rest = substr(rest, RSTART + RLENGTH)
     }
     if (text != "")
-        print "card   " value["period"] text
-}
-
-function read_card(last,    b, field, at, tag, k) {
-    read_bytes(0, card_bytes(last), b)
-    for (tag = 1; tag <= last; tag++) {
-        for (k = 1; k <= 3 + SIZE[tag]; k++)
-            field[k] = b[at + k]
-        at += 3 + SIZE[tag]
-        value[NAME[tag]] = field_text(field)
-    }
+        text = value["period"] text
+    if (rest ~ /gap$/)
+        text = text (text == "" ? "" : "; ") value["gap"]
+    if (text != "")
+        print "card   " text
 }
 
 # A term with the card's values that enter it; of a sum, durations and floors are added.

@@ -1,6 +1,6 @@
 """Writes the files of data/, the arguments, and stdout: what the program must print of them. Run it in this folder.
 
-Each file stands for a point of document 01, or of request One of document 02. Where a refusal is expected it is written here by hand, from the document; paper.py works out the rest, and must
+Each file stands for a point of document 01, or of requests One and Nine of document 02. Where a refusal is expected it is written here by hand, from the document; paper.py works out the rest, and must
 come to the same refusal. The last files are those of examples/, whose README has their verdicts."""
 import os
 import re
@@ -30,7 +30,8 @@ SLEEPS = {"tCKE": (7500, 3), "tXP": (10000, 3), "tCKESR": (15000, 3), "tXSR": (1
 def card_fields(**changed):
     c = {**BENCH, **changed}
     out = [field(1, num(c["period"], 4)), field(2, num(c["mr2"], 1)), field(3, num(c["R"], 2)), field(4, num(c["tREFI"], 4))]
-    return out + [field(5 + k, num(c[name][0], 4) + num(c[name][1], 1)) for k, name in enumerate(paper.TIMINGS + paper.SLEEPS) if name in c]
+    out += [field(5 + k, num(c[name][0], 4) + num(c[name][1], 1)) for k, name in enumerate(paper.TIMINGS + paper.SLEEPS) if name in c]
+    return out + ([field(25, num(c["gap"], 1))] if "gap" in c else [])
 
 
 def card(**changed):
@@ -43,6 +44,15 @@ REFPB, REFAB, PREA = CKE | 4, CKE | 12, CKE | 11 | 1 << 4
 RESERVED = CKE | 3
 # clock-enable low: a fall to power-down, to self-refresh by either refresh, to deep power-down by either HHL; a rise
 DOWN, SELF, SELF_PB, DEEP, DEEP_H, WAKE = 1 << 20, 12, 4, 3, 11, NOP
+
+
+# of two parts: CS_n of each, and both high
+CS_NS, NEITHER = (1 << 20, 1 << 22), 7 << 20
+
+
+def to(part, pins):
+    """The pins of a command to this part: the other's CS_n is high."""
+    return pins | CS_NS[1 - part]
 
 
 def mrw(ma, op):
@@ -89,8 +99,8 @@ def case(name, data, verdict=None):
     CASES.append((name, data, verdict))
 
 
-def good(name, entries, e, **changed):
-    case(name, trace(entries, e, card(**changed)))
+def good(name, entries, e, verdict=None, **changed):
+    case(name, trace(entries, e, card(**changed)), verdict)
 
 
 def bad(name, entries, e, number, rule=0, cycle=0, place=None, **changed):
@@ -458,6 +468,157 @@ def sleep_tag_cases():
     good("tags-and-no-sleep", [(0, act(0)), (15, rd(0))], 20, **SLEEPS)
 
 
+def parts_pins_cases():
+    """Which part an entry is for; 6 and 24, and what stands before and after them."""
+    g = dict(gap=2)
+    lines = ["0 NOP - -", "1 NOP - 0", "2 NOP - 1", "3 NOP - -", "4 ACT 3 1", "5 ACT 3 0", "19 RD 3 1", "25 RDA 3 0", "30 MRR - 1", "60 PRE 3 1", "61 PREA - 0",
+             "100 REFPB 0 1", "101 MRW - 0", "150 REFPB 1 1", "151 REFAB - 0", "accepted 11 1 -1 0"]
+    entries = [(0, NEITHER), (1, to(0, NOP_LOW)), (2, to(1, NOP_LOW)), (3, NEITHER | 0xFFFFF), (4, to(1, act(3))), (5, to(0, act(3))), (19, to(1, rd(3))), (25, to(0, rd(3, 1))),
+               (30, to(1, mrr(5))), (60, to(1, pre(3))), (61, to(0, PREA)), (100, to(1, REFPB)), (101, to(0, mrw(1, 3))), (150, to(1, REFPB)), (151, to(0, REFAB))]
+    assert paper.judge(trace(entries, 200, card(gap=0))) == lines
+    good("parts-lines", entries, 200, lines[-1], gap=0)
+    good("parts-none", [], 0, "accepted 0 0 0 0", **g)
+    for i, bit in (("cke", CKE), ("23", 1 << 23)):
+        for name, pins in (("first", to(0, act(0))), ("second", to(1, act(0))), ("neither", NEITHER), ("both", CKE)):
+            bad("6-%s-%s" % (i, name), [(0, pins ^ bit)], 20, 6, **g)
+    for name, pins in (("nop", NOP_LOW), ("act", act(0)), ("reserved", RESERVED), ("closed", rd(0)), ("refab", REFAB)):
+        bad("24-" + name, [(0, pins)], 20, 24, **g)
+    bad("24-5", [(7, NEITHER), (7, CKE)], 20, 5, **g)
+    bad("24-11", [(28081, CKE)], 28090, 11, 19, 28080, **g)
+    bad("24-at-failing", [(28080, CKE)], 28090, 24, **g)
+    bad("5-parts", [(7, to(0, NOP_LOW)), (7, to(1, NOP_LOW))], 20, 5, **g)
+    bad("5-parts-neither", [(7, to(1, act(0))), (7, NEITHER)], 20, 5, **g)
+    bad("5-parts-end", [(3, to(0, act(0))), (7, to(1, act(0)))], 6, 5, place=2, **g)
+    for p in (0, 1):
+        bad("7-part-%d" % p, [(0, to(p, RESERVED))], 20, 7, **g)
+        bad("7-ma-part-%d" % p, [(0, to(p, mrw(4, 3)))], 20, 7, **g)
+        bad("9-part-%d" % p, [(0, to(p, mrw(2, 0x19)))], 20, 9, **g)
+    bad("6-second-untagged", [(0, to(0, NOP_LOW))], 20, 6)
+    good("neither-is-free", [(0, to(0, REFAB)), (1, NEITHER | act(3)), (2, NEITHER | RESERVED)], 20, "accepted 1 1 -1 0", **g)
+
+
+def parts_own_cases():
+    """What one part does is nothing to the other."""
+    g = dict(gap=2)
+    for p, q in ((0, 1), (1, 0)):
+        n = "-%d" % p
+        bad("8-open-in-the-other" + n, [(0, to(p, act(0))), (15, to(q, rd(0)))], 40, 8, **g)
+        good("act-in-both" + n, [(0, to(p, act(0))), (1, to(q, act(0)))], 40, "accepted 2 0 0 0", **g)
+        good("refab-open-in-the-other" + n, [(0, to(p, act(0))), (1, to(q, REFAB)), (105, to(q, mrw(1, 3)))], 200, **g)
+        bad("8-refab-open" + n, [(0, to(p, act(0))), (100, to(p, REFAB))], 200, 8, **g)
+        shut = [(0, to(p, act(0))), (1, to(q, act(0))), (34, to(p, PREA))]
+        good("prea-of-one" + n, shut + [(40, to(q, rd(0)))], 60, "accepted 4 0 0 0", **g)
+        bad("8-prea-of-one" + n, shut + [(40, to(p, rd(0)))], 60, 8, **g)
+        good("prea-rule6-of-one" + n, [(0, to(p, PREA)), (1, to(q, act(0)))], 60, **g)
+        bound("parts-rule6" + n, [(0, to(p, PREA)), (1, to(q, pre(0)))], 16, to(p, act(0)), 6, 17, **g)
+        for what, before in (("mrw", mrw(1, 3)), ("mrr", mrr(0)), ("refab", REFAB), ("refpb", REFPB)):
+            good("%s-then-the-other%s" % (what, n), [(0, to(p, before)), (1, to(q, REFPB)), (49, to(q, act(0)))], 60, **g)
+        bound("parts-rule3" + n, [(0, to(p, REFAB)), (1, to(q, REFPB))], 103, to(p, act(0)), 3, 104, **g)
+        good("parts-no-rule10" + n, [(0, to(p, act(0))), (1, to(q, act(1))), (8, to(p, act(1))), (9, to(q, act(2)))], 60, **g)
+        four = [(8 * b, to(p, act(b))) for b in range(4)] + [(25, to(q, act(0))), (33, to(q, act(1)))]
+        bound("parts-rule11" + n, four, 39, to(p, act(4)), 11, 40, **g)
+        bound("parts-rule12" + n, [(0, to(p, act(0))), (15, to(p, rd(0)))], 18, to(p, rd(0)), 12, 19, **g)
+        bound("parts-rule13" + n, [(0, to(p, act(0))), (15, to(p, rd(0)))], 30, to(p, wr(0)), 13, 31, **g)
+        bound("parts-rule14" + n, [(0, to(p, act(0))), (15, to(p, wr(0)))], 31, to(p, rd(0)), 14, 32, **g)
+        # each its own round: the other's REFab and REFpb leave it
+        three = [(48 * k, to(p, REFPB)) for k in range(3)] + [(97, to(q, REFAB)), (201, to(q, REFPB))]
+        good("parts-round" + n, three + [(202, to(p, act(4)))], 300, **g)
+        bad("8-parts-round" + n, [(0, to(p, act(3)))] + [(48 * k + 8, to(p, REFPB)) for k in range(3)] + [(153, to(q, REFAB)), (160, to(p, REFPB))], 300, 8, **g)
+
+
+def parts_bus_cases():
+    """Rules 25 to 27, from either part: on the bench card 12 to 14 are 4, 16 and 17."""
+    rows = (("rd-rd", rd(0), rd(0), 25, 4), ("rd-mrr", rd(0), mrr(0), 25, 4), ("wr-wr", wr(0), wr(0), 25, 4), ("rda-rda", rd(0, 1), rd(0, 1), 25, 4),
+            ("rd-wr", rd(0), wr(0), 26, 16), ("mrr-wr", mrr(0), wr(0), 26, 16), ("wr-rd", wr(0), rd(0), 27, 17), ("wra-mrr", wr(0, 1), mrr(0), 27, 17))
+    for p, q in ((0, 1), (1, 0)):
+        n, opened = "-%d" % p, [(0, to(p, act(0))), (1, to(q, act(0)))]
+        for name, first, second, rule, delay in rows:
+            bound("bus-%s%s" % (name, n), opened + [(20, to(p, first))], 20 + delay + 1, to(q, second), rule, 20 + delay + 2, gap=2)
+        good("bus-mrr-mrr" + n, [(0, to(p, mrr(0))), (1, to(q, mrr(0)))], 20, "accepted 2 0 0 0", gap=2)
+        good("bus-mrr-rd" + n, opened + [(20, to(p, mrr(0))), (21, to(q, rd(0)))], 40, "accepted 4 0 0 0", gap=2)
+        # from the other's latest, whatever the own part did since
+        bound("bus-own-since" + n, opened + [(20, to(p, rd(0))), (26, to(q, rd(0))), (30, to(q, rd(0)))], 35, to(p, rd(0)), 25, 36, gap=2)
+        bound("bus-latest" + n, opened + [(20, to(p, rd(0))), (24, to(p, rd(0)))], 29, to(q, rd(0)), 25, 30, gap=2)
+        # by the lowest rule that is broken
+        bad("bus-7-first" + n, [(0, to(p, act(0))), (10, to(q, act(0))), (20, to(p, rd(0))), (21, to(q, rd(0)))], 60, 10, 7, 25, gap=2)
+        bad("bus-25-first" + n, opened + [(20, to(p, wr(0))), (37, to(p, rd(0))), (38, to(q, rd(0)))], 60, 10, 25, 43, gap=2)
+        bound("bus-no-gap" + n, opened + [(20, to(p, rd(0)))], 23, to(q, rd(0)), 25, 24, gap=0)
+        bound("bus-most-gap" + n, opened + [(20, to(p, wr(0)))], 20 + 17 + 254, to(q, rd(0)), 27, 20 + 17 + 255, gap=255)
+        good("bus-nothing-before" + n, [(0, to(p, act(0))), (15, to(p, rd(0))), (19, to(p, rd(0)))], 60, "accepted 3 0 0 0", gap=255)
+        good("bus-others-free" + n, opened + [(20, to(p, rd(0))), (21, to(q, act(1))), (36, to(q, pre(0))), (37, to(q, NOP_LOW))], 60, gap=255)
+        parts_mr2_cases(p, q, n)
+
+
+def parts_mr2_cases(p, q, n):
+    """RL and WL are those of the part with the earlier entry, as they stood then. MR2 5E hex: RL 16, WL 13, so 13 and 14 are 13 and 24."""
+    opened = [(0, to(q, mrw(2, 0x5E))), (10, to(q, act(0))), (11, to(p, act(0)))]
+    for name, first, second, rule, slow, plain in (("rd-wr", rd(0), wr(0), 26, 13, 16), ("mrr-wr", mrr(0), wr(0), 26, 13, 16), ("wr-rd", wr(0), rd(0), 27, 24, 17)):
+        bound("bus-mr2-%s%s" % (name, n), opened + [(30, to(q, first))], 30 + slow + 1, to(p, second), rule, 30 + slow + 2, gap=2)
+        bound("bus-mr2-plain-%s%s" % (name, n), opened + [(30, to(p, first))], 30 + plain + 1, to(q, second), rule, 30 + plain + 2, gap=2)
+    then = [(0, to(q, mrw(2, 0x5E))), (10, to(p, act(0))), (30, to(q, mrr(0))), (34, to(q, mrw(2, 0x1A)))]
+    bound("bus-mr2-of-then" + n, then, 44, to(p, wr(0)), 26, 45, gap=2)
+
+
+def parts_account_cases():
+    """Both ledgers at every entry and at the end; the earliest cycle, and of one cycle the first part's rule."""
+    g, i = dict(gap=2), 3120
+    good("parts-idle", [], 9 * i - 1, "accepted 0 0 8 8", **g)
+    bad("parts-idle-late", [], 9 * i, 11, 19, 9 * i, place=0, **g)
+    for p, q in ((0, 1), (1, 0)):
+        n, fed = "-%d" % p, [(20000, to(p, REFAB))]
+        good("starved" + n, fed, 9 * i - 1, "accepted 1 1 " + {0: "7 8", 1: "8 7"}[p], **g)
+        bad("starved-end" + n, fed, 9 * i, 11, 19, 9 * i, place=1, **g)
+        bad("starved-entry" + n, fed + [(30000, to(p, act(0)))], 30001, 11, 19, 9 * i, **g)
+        bad("starved-at" + n, fed + [(9 * i, to(p, act(0)))], 9 * i, 11, 19, 9 * i, **g)
+        bad("starved-at-neither" + n, fed + [(9 * i, NEITHER)], 9 * i, 11, 19, 9 * i, **g)
+        bad("starved-other-refreshed" + n, fed + [(9 * i, to(p, REFAB))], 9 * i, 11, 19, 9 * i, **g)
+        good("starved-saved" + n, fed + [(9 * i, to(q, REFAB))], 9 * i, "accepted 2 2 8 8", **g)
+        bad("both-at-one" + n, [(9 * i, to(p, REFAB))], 9 * i, 11, 19, 9 * i, **g)
+        bad("order-10-at-failing" + n, [(9 * i - 1, to(p, pre(0))), (9 * i, to(p, act(0)))], 9 * i + 2, 10, 5, 9 * i + 14, **g)
+        eight = [(48 * k, to(p, REFPB)) for k in range(8)] + [(400, to(q, REFPB))]
+        good("parts-rounds" + n, eight, 500, "accepted 9 1 " + {0: "-1 0", 1: "0 -1"}[p], **g)
+    # 20 against 19 at cycle 10 I: one part's last of two refreshes just before I, the other's one after it
+    for p, q, rule in ((0, 1, 20), (1, 0, 19)):
+        n, tied = "-%d" % p, [(3015, to(p, REFAB)), (3119, to(p, REFAB)), (3200, to(q, REFAB))]
+        good("tie" + n, tied, 10 * i - 1, "accepted 3 3 " + {0: "7 8", 1: "8 7"}[p], **g)
+        bad("tie-end" + n, tied, 10 * i, 11, rule, 10 * i, place=3, **g)
+        bad("tie-entry" + n, tied + [(10 * i + 5, NEITHER)], 10 * i + 9, 11, rule, 10 * i, **g)
+        bad("tie-at" + n, tied + [(10 * i, to(1, act(0)))], 10 * i + 9, 11, rule, 10 * i, **g)
+        bad("tie-saved-20" + n, tied + [(10 * i, to(p, REFAB))], 10 * i + 9, 11, 19, 10 * i, **g)
+        bad("tie-saved-19" + n, tied + [(10 * i, to(q, REFAB))], 10 * i + 9, 11, 20, 10 * i, **g)
+    # the earliest, though it is the second part's
+    bad("second-fails-first", [(20000, to(0, REFAB))], 40000, 11, 19, 9 * i, place=1, **g)
+    bad("second-gap-first", [(104 * k, to(1, REFAB)) for k in range(8)] + [(20000, to(0, REFAB))], 40000, 11, 20, 28809, place=9, **g)
+
+
+def parts_tag_cases():
+    fields, sleeps = card_fields(), card_fields(**SLEEPS)[18:]
+    bench, asleep, gap, more = b"".join(fields), card(**SLEEPS), field(25, bytes([2])), trace([(10, NEITHER)], 60, b"")
+    for value in (0, 1, 255):
+        case("25-%d" % value, bench + field(25, bytes([value])) + more, "accepted 0 0 0 0")
+    for k in (1, 2, 3):
+        case("1-cut-25-%d" % k, bench + gap[:k], "refused 1 0 135 0")
+    case("1-ends-behind-25", bench + gap, "refused 1 0 139 0")
+    for name, head in (("none", [0, 0]), ("two", [0, 2, 1, 1]), ("high", [1, 1, 2])):
+        case("3-25-" + name, bench + bytes([25] + head) + more, "refused 3 0 135 0")
+        case("3-25-asleep-" + name, asleep + bytes([25] + head) + more, "refused 3 0 167 0")
+    case("4-25", asleep + gap + more, "refused 4 0 167 0")
+    case("4-25-none", asleep + field(25, bytes([0])) + more, "refused 4 0 167 0")
+    case("1-cut-25-asleep", asleep + gap[:3], "refused 1 0 167 0")
+    case("2-25-twice", bench + gap + gap + more, "refused 2 0 139 0")
+    case("2-25-behind-an-entry", bench + entry(0, NOP) + gap + end(5), "refused 2 0 145 0")
+    case("2-25-behind-an-entry-last", bench + entry(0, NOP) + bytes([25]), "refused 2 0 145 0")
+    case("2-25-before-18", b"".join(fields[:17]) + gap + fields[17] + more, "refused 2 0 127 0")
+    case("2-25-first", gap + bench + more, "refused 2 0 0 0")
+    for k in (1, 2, 3):
+        case("2-25-behind-%d" % (18 + k), bench + b"".join(sleeps[:k]) + gap + b"".join(sleeps[k:]) + more, "refused 2 0 %d 0" % (135 + 8 * k))
+    case("2-19-behind-25", bench + gap + b"".join(sleeps) + more, "refused 2 0 139 0")
+    for tag in (23, 24, 26, 31):
+        case("2-%d-behind-25" % tag, bench + gap + bytes([tag]), "refused 2 0 139 0")
+        case("2-%d-behind-18" % tag, bench + bytes([tag]), "refused 2 0 135 0")
+    case("12-25-behind-the-end", bench + gap + end(5) + gap, "refused 12 0 146 0")
+
+
 def example_cases():
     """The traces of examples/, made of their texts, with the verdicts of the table in its README; examples/NAME.trace is a link to the file here."""
     folder = "../../examples/"
@@ -470,10 +631,11 @@ def example_cases():
         case("example-" + name, data, verdict)
 
 
-SMALL = {"cuts": trace([(0, act(0)), (15, rd(0))], 20), "cuts-asleep": trace([(0, DOWN), (15, WAKE), (23, act(0))], 40, card(**SLEEPS))}
+SMALL = {"cuts": trace([(0, act(0)), (15, rd(0))], 20), "cuts-asleep": trace([(0, DOWN), (15, WAKE), (23, act(0))], 40, card(**SLEEPS)),
+         "cuts-parts": trace([(0, to(0, act(0))), (1, to(1, act(0))), (16, to(1, rd(0)))], 40, card(gap=2))}
 
 for build in (bench_cases, rule_cases, mr2_cases, refusal_cases, order_cases, account_cases, form_cases, move_cases, sleep_rule_cases, sleep_account_cases,
-              sleep_tag_cases, example_cases):
+              sleep_tag_cases, parts_pins_cases, parts_own_cases, parts_bus_cases, parts_account_cases, parts_tag_cases, example_cases):
     build()
 
 shutil.rmtree("data", ignore_errors=True)

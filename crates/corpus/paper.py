@@ -1,9 +1,9 @@
-"""Document 01 with request One of document 02 in Python, over the list of entries and cycle by cycle: slow and plain, written from the documents alone. It knows
+"""Document 01 with requests One and Nine of document 02 in Python, over the list of entries and cycle by cycle: slow and plain, written from the documents alone. It knows
 nothing of the Rattle code."""
 
 TIMINGS = ["tRCD", "tRPpb", "tRPab", "tRAS", "tRRD", "tFAW", "tRTP", "tWR", "tWTR", "tDQSCK", "tRFCab", "tRFCpb", "tMRR", "tMRW"]
 SLEEPS = ["tCKE", "tXP", "tCKESR", "tXSR"]
-SIZES = {1: 4, 2: 1, 3: 2, 4: 4, **{5 + k: 5 for k in range(18)}, 32: 7, 33: 4}
+SIZES = {1: 4, 2: 1, 3: 2, 4: 4, **{5 + k: 5 for k in range(18)}, 25: 1, 32: 7, 33: 4}
 #       code: (least ps, RL, WL A, WL B)
 ROWS = {1: (6000, 3, 1, 1), 4: (2500, 6, 3, 3), 6: (1875, 8, 4, 4), 7: (1670, 9, 5, 5), 8: (1500, 10, 6, 8), 9: (1360, 11, 6, 9),
         10: (1250, 12, 6, 9), 12: (1071, 14, 8, 11), 14: (938, 16, 8, 13)}
@@ -27,10 +27,10 @@ def up(d, p):
 
 
 class Card:
-    """Fields by tag, as they come; a timing is (duration, floor)."""
+    """Fields by tag, as they come; a timing is (duration, floor), the gap None without tag 25."""
 
     def __init__(self):
-        self.timing, self.sleeps = {}, False
+        self.timing, self.sleeps, self.gap = {}, False, None
 
     def n(self, name):
         d, f = self.timing[name]
@@ -56,6 +56,9 @@ class Card:
         if tag == 4:
             self.trefi = x
             return self.period <= x <= 20000000
+        if tag == 25:
+            self.gap = x
+            return not self.sleeps
         d = int.from_bytes(value[:4], "big")
         self.timing[(TIMINGS + SLEEPS)[tag - 5]] = (d, value[4])
         self.sleeps = self.sleeps or tag >= 19
@@ -73,6 +76,18 @@ class Cmd:
         if self.kind == "FALL" and self.level != "power-down":
             return "REFAB"
         return "NOP" if self.kind in ("FALL", "LOW", "RISE") else self.kind
+
+
+def read_pair(pins):
+    """Of an entry for two parts: which it is for (None: neither) and the command, or the number 6, 7 or 24."""
+    bit = lambda i: pins >> i & 1
+    if not bit(21) or bit(23):
+        return None, 6
+    if not bit(20) and not bit(22):
+        return None, 24
+    if bit(20) and bit(22):
+        return None, Cmd("NOP")
+    return (1 if bit(20) else 0), decode(pins & ~(1 << 20))
 
 
 def read(pins, sleeps, level):
@@ -216,8 +231,26 @@ def sleep_bounds(t, past, cmd):
     return out
 
 
-def first_broken(card, past, cmd, counter, t):
-    late = [(n, c) for n, c in bounds(card, past, cmd, counter) if c > t]
+def bus_bounds(card, other, cmd):
+    """Likewise from the other part's entries."""
+    t, g = card.t, card.gap
+    of = lambda *kinds: latest(other, lambda e: e.cmd.kind in kinds)
+    read, write, any_read, out = of("RD"), of("WR"), of("RD", "MRR"), []
+    if cmd.kind in ("RD", "MRR"):
+        if read is not None:
+            out.append((25, read.t + 4 + g))
+        if write is not None:
+            out.append((27, write.t + wl(write.mr2) + 5 + t["tWTR"] + g))
+    if cmd.kind == "WR":
+        if write is not None:
+            out.append((25, write.t + 4 + g))
+        if any_read is not None:
+            out.append((26, any_read.t + rl(any_read.mr2) + t["tDQSCK"] + 5 - wl(any_read.mr2) + g))
+    return out
+
+
+def first_broken(found, t):
+    late = [(n, c) for n, c in found if c > t]
     if not late:
         return None
     n = min(n for n, c in late)
@@ -262,10 +295,11 @@ class Account:
         return None
 
 
-class Judge:
+class Part:
+    """The entries of one part, and what they leave behind."""
+
     def __init__(self, card):
-        card.delays()
-        self.card, self.past, self.account = card, [], Account(card.interval)
+        self.past, self.account = [], Account(card.interval)
         self.open, self.counter, self.mr2 = set(), 0, card.mr2
 
     def counts_next(self):
@@ -282,33 +316,8 @@ class Judge:
             return not self.open
         return k != "REFPB" or self.counter not in self.open
 
-    def entry(self, t, pins):
-        """None, or (number, rule, cycle)."""
-        if self.past and t <= self.past[-1].t:
-            return 5, 0, 0
-        account = self.account.copy()
-        late = account.idle(t - 1, self.counts_next())
-        if late:
-            return 11, *late
-        cmd = read(pins, self.card.sleeps, level_after(self.past))
-        if isinstance(cmd, int):
-            return cmd, 0, 0
-        if not self.state_good(cmd):
-            return 8, 0, 0
-        if cmd.kind == "MRW" and (cmd.ma == 1 and cmd.op & 7 != 3 or cmd.ma == 2 and not mr2_good(self.card.period, cmd.op)):
-            return 9, 0, 0
-        broken = first_broken(self.card, self.past, cmd, self.counter, t)
-        if broken:
-            return 10, broken[0], broken[1]
-        if account.at < t:
-            account.tick(self.counts_next())
-        if cmd.kind == "REFAB" or cmd.kind == "REFPB" and self.counter == 7:
-            account.refresh()
-        if account.fails():
-            return 11, account.fails(), t
-        self.account = account
-        self.change(Entry(t, cmd, self.mr2, self.counter))
-        return None
+    def refreshed_by(self, cmd):
+        return cmd.kind == "REFAB" or cmd.kind == "REFPB" and self.counter == 7
 
     def change(self, e):
         self.past.append(e)
@@ -326,27 +335,96 @@ class Judge:
         if k == "MRW" and e.cmd.ma == 2:
             self.mr2 = e.cmd.op
 
-    def end(self, e):
-        if self.past and e < self.past[-1].t:
+
+def earliest(fails):
+    """Of what each account's walk came to, the failing (rule, cycle) that is named: the earliest, and of one cycle the first part's."""
+    found = [f for f in fails if f]
+    return min(found, key=lambda f: f[1]) if found else None
+
+
+class Judge:
+    def __init__(self, card):
+        card.delays()
+        self.card, self.two = card, card.gap is not None
+        self.parts = [Part(card) for _ in range(2 if self.two else 1)]
+        self.entries = []  # (part or None, entry), both parts together
+
+    def read(self, pins):
+        return read_pair(pins) if self.two else (0, read(pins, self.card.sleeps, level_after(self.parts[0].past)))
+
+    def walk(self, upto):
+        """Each part's account after this cycle, and what 11 names."""
+        accounts = [p.account.copy() for p in self.parts]
+        return accounts, earliest([a.idle(upto, p.counts_next()) for a, p in zip(accounts, self.parts)])
+
+    def entry(self, t, pins):
+        """None, or (number, rule, cycle)."""
+        if self.entries and t <= self.entries[-1][1].t:
             return 5, 0, 0
-        late = self.account.idle(e, self.counts_next())
+        accounts, late = self.walk(t - 1)
+        if late:
+            return 11, *late
+        which, cmd = self.read(pins)
+        if isinstance(cmd, int):
+            return cmd, 0, 0
+        part = self.parts[which or 0]
+        bad = self.command(t, which, part, cmd)
+        if bad:
+            return bad
+        for a, p in zip(accounts, self.parts):
+            if a.at < t:
+                a.tick(p.counts_next())
+            if p is part and p.refreshed_by(cmd):
+                a.refresh()
+        late = earliest([(a.fails(), t) if a.fails() else None for a in accounts])
+        if late:
+            return 11, *late
+        for a, p in zip(accounts, self.parts):
+            p.account = a
+        e = Entry(t, cmd, part.mr2, part.counter)
+        self.entries.append((which, e))
+        if which is not None:
+            part.change(e)
+        return None
+
+    def command(self, t, which, part, cmd):
+        """8, 9 and 10."""
+        if not part.state_good(cmd):
+            return 8, 0, 0
+        if cmd.kind == "MRW" and (cmd.ma == 1 and cmd.op & 7 != 3 or cmd.ma == 2 and not mr2_good(self.card.period, cmd.op)):
+            return 9, 0, 0
+        found = bounds(self.card, part.past, cmd, part.counter)
+        if self.two and which is not None:
+            found = found + bus_bounds(self.card, self.parts[1 - which].past, cmd)
+        broken = first_broken(found, t)
+        return (10, *broken) if broken else None
+
+    def end(self, e):
+        if self.entries and e < self.entries[-1][1].t:
+            return 5, 0, 0
+        accounts, late = self.walk(e)
+        for a, p in zip(accounts, self.parts):
+            p.account = a
         return (11, *late) if late else None
 
     def counts(self):
-        commands = sum(x.cmd.kind not in ("NOP", "FALL", "LOW", "RISE") for x in self.past)
-        counted = sum(x.cmd.kind == "REFAB" or x.cmd.kind == "REFPB" and x.counter == 7 for x in self.past)
-        return commands, counted, self.account.owed
+        past = [x for _, x in self.entries]
+        commands = sum(x.cmd.kind not in ("NOP", "FALL", "LOW", "RISE") for x in past)
+        counted = sum(x.cmd.kind == "REFAB" or x.cmd.kind == "REFPB" and x.counter == 7 for x in past)
+        return [commands, counted] + [p.account.owed for p in self.parts]
 
-    def line(self, e):
+    def line(self):
+        which, e = self.entries[-1]
         name = "NOP" if e.cmd.kind in ("FALL", "LOW", "RISE") else e.cmd.kind + ("A" if e.cmd.ap else "")
-        return "%d %s %s" % (e.t, name, "-" if e.bank is None else e.bank)
+        text = "%d %s %s" % (e.t, name, "-" if e.bank is None else e.bank)
+        return text + (" %s" % ("-" if which is None else which) if self.two else "")
 
 
 def may_come(last):
     """The tags that may stand behind this one; 19 to 22 come all four or not at all."""
     if last < 18 or 19 <= last < 22:
         return (last + 1,)
-    return (19, 32, 33) if last == 18 else (32, 33)
+    return {18: (19, 25, 32, 33), 22: (25, 32, 33)}.get(last, (32, 33))
 
 
 def judge(data):
@@ -370,7 +448,7 @@ def judge(data):
         value = data[at + 3:at + 3 + size]
         if len(value) < size:
             return refused(1)
-        if got <= 22:
+        if got <= 25:
             if not card.take(got, value):
                 return refused(4)
         elif run is None:
@@ -379,7 +457,7 @@ def judge(data):
             bad = run.entry(int.from_bytes(value[:4], "big"), int.from_bytes(value[4:], "big"))
             if bad:
                 return refused(*bad)
-            lines.append(run.line(run.past[-1]))
+            lines.append(run.line())
         elif got == 33:
             e = int.from_bytes(value, "big")
             bad = run.end(e)
@@ -388,5 +466,5 @@ def judge(data):
             behind = at + 3 + size
             if behind < len(data):
                 return refused(12, offset=behind)
-            return lines + ["accepted %d %d %d" % run.counts()]
+            return lines + [" ".join(["accepted"] + [str(n) for n in run.counts()])]
         at, last = at + 3 + size, got

@@ -1,7 +1,7 @@
 """Writes stdin and stdout: a stream of traces, and the verdict of each by corpus/paper.py, which is written from the documents. Run it in this folder.
 
-The traces are the files of corpus/data and three that are longer than the program's buffer: one is accepted, so is one with sleeps, and of one all behind an early
-entry is passed over."""
+The traces are the files of corpus/data and four that are longer than the program's buffer: one is accepted, so are one with sleeps and one of two parts, and of one all
+behind an early entry is passed over."""
 import os
 import sys
 
@@ -31,6 +31,14 @@ def sleeping_pins(k):
     return moves.get(k % 780, k & 0xFF if asleep else pins(k))
 
 
+def parts_pins(k):
+    """Likewise in both parts, the second an entry behind the first; CS_n of both is high elsewhere."""
+    first, second = pins(k), pins(k - 1)
+    if first != NOP:
+        return first | 1 << 22
+    return second | 1 << 20 if k and second != NOP else 7 << 20
+
+
 def long(changed=(), pins=pins, card=corpus("1-no-end")):
     """An entry every four cycles behind the bench card; some are changed."""
     entries = {**{k: pins(k) for k in range(6600)}, **dict(changed)}
@@ -40,10 +48,10 @@ def long(changed=(), pins=pins, card=corpus("1-no-end")):
 
 
 traces = [corpus(name) for name in sorted(os.listdir("../corpus/data"))]
-traces += [long(), long(pins=sleeping_pins, card=corpus("tags-and-no-sleep")[:167]), long({160: ACT}), corpus("bench-example")]
+traces += [long(), long(pins=sleeping_pins, card=corpus("tags-and-no-sleep")[:167]), long(pins=parts_pins, card=corpus("25-0")[:139]), long({160: ACT}), corpus("bench-example")]
 verdicts = [paper.judge(t)[-1] for t in traces]
 assert len(traces[-2]) > 65536 and verdicts[-2] == "refused 8 0 %d 0" % (135 + 1600)
-assert verdicts[-4] == "accepted 36 9 -1" and verdicts[-3] == "accepted 36 9 -2", verdicts[-4:]
+assert verdicts[-5:-2] == ["accepted 36 9 -1", "accepted 36 9 -2", "accepted 72 18 -1 -1"], verdicts[-5:]
 with open("stdin", "wb") as f:
     f.write(b"".join(len(t).to_bytes(4, "big") + t for t in traces))
 with open("stdout", "w") as f:

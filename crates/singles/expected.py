@@ -1,6 +1,6 @@
 #!/usr/bin/env python3
-# What singles is to write, from document 01 and request One of document 02: the rules over the list of earlier entries, the account cycle by cycle; and its table
-# of calls.
+# What singles is to write, from document 01 and requests One and Nine of document 02: the rules over the lists of the parts' earlier entries, the account cycle by
+# cycle; and its table of calls.
 #   python3 crates/singles/expected.py > crates/singles/stdout
 #   python3 crates/singles/expected.py table > crates/singles/src/table.rt
 import importlib.util, pathlib, sys
@@ -16,7 +16,7 @@ BENCH = {
     "period": 1250, "mr2": 0x1A, "R": 8192, "tREFI": 3900000,
     "ps": [18000, 18000, 21000, 42000, 10000, 50000, 7500, 15000, 7500, 5500, 130000, 60000, 0, 0, 0, 0, 0, 0],
     "floor": [3, 3, 3, 3, 2, 8, 4, 4, 4, 0, 0, 0, 4, 10, 0, 0, 0, 0],
-    "sleeps": 0,
+    "sleeps": 0, "paired": 0, "gap": 0,
 }
 # code: least period, RL, WL of set A, of set B
 LATENCIES = {
@@ -41,7 +41,7 @@ def writable(period, mr2):
 
 def card_good(card):
     return (938 <= card["period"] <= 100000 and writable(card["period"], card["mr2"]) and 1 <= card["R"] <= 16384
-            and card["period"] <= card["tREFI"] <= 20000000 and all(ps <= 1000000 for ps in card["ps"]))
+            and card["period"] <= card["tREFI"] <= 20000000 and all(ps <= 1000000 for ps in card["ps"]) and not (card["sleeps"] and card["paired"]))
 
 
 def rounded_up(ps, period):
@@ -74,13 +74,16 @@ def judged_as(kind, numbers):
     return "NOP" if kind in ("FALL", "LOW", "RISE") else kind
 
 
-class Judge:
-    """The list of entries taken so far; `odd` and `noted` are stamps and MR2 values that were put where the record remembers one. The ledger stands at cycle `at`;
-    `since` is a number among the counted cycles, and of those up to `at` `skipped` are not."""
+# what the record remembers of the data bus
+BUS = {"rd": ["RD"], "wr": ["WR"], "turn": ["RD", "MRR"]}
 
-    def __init__(self):
-        self.card = {k: v[:] if isinstance(v, list) else v for k, v in BENCH.items()}
-        self.mr2, self.counter, self.last, self.past = self.card["mr2"], 0, None, []
+
+class Part:
+    """The list of the part's own entries taken so far; `odd` and `noted` are stamps and MR2 values that were put where the record remembers one. The ledger stands
+    at cycle `at`; `since` is a number among the counted cycles, and of those up to `at` `skipped` are not."""
+
+    def __init__(self, card):
+        self.card, self.mr2, self.counter, self.past = card, card["mr2"], 0, []
         self.at, self.number, self.since, self.skipped, self.level = 0, 0, 0, 0, "awake"
         self.odd, self.noted = {}, {}
 
@@ -88,12 +91,13 @@ class Judge:
     def ledger_good(self):
         return card_good(self.card) and -8 <= self.number <= 8 and self.since <= self.count()
 
-    def good(self):
+    def good(self, last):
         stamps = [e.stamp for e in self.past if e.kind not in ("NOP", "LOW")] + list(self.odd.values())
-        values = [self.mr2] + [e.mr2 for e in self.past if e.kind in ("RD", "WR", "MRR")] + list(self.noted.values())
-        by_last = all(self.last is not None and t <= self.last for t in stamps)
+        noted = [v for place, v in self.noted.items() if place[6:] not in BUS] + [e.mr2 for place in ("wr", "turn") for e in self.heard(place)]
+        values = [self.mr2] + [e.mr2 for e in self.past if e.kind in ("RD", "WR", "MRR")] + noted
+        by_last = all(last is not None and t <= last for t in stamps)
         return (self.ledger_good() and all(writable(self.card["period"], v) for v in values) and by_last
-                and (self.last is None or self.last <= self.at) and self.counter <= 7)
+                and (last is None or last <= self.at) and self.counter <= 7)
 
     # ---- the account
     def count(self):
@@ -116,11 +120,10 @@ class Judge:
         refuse(number > 8, 11, 19, t)
         refuse(count - since > 9 * self.interval(), 11, 20, t)
 
-    def idle(self, to):
-        ledger = self.number, self.since, self.count()
-        for t in range(self.at + 1, to + 1 if self.runs() else 0):
-            ledger = self.due(ledger)
-            self.account(t, ledger)
+    def counted(self, kind, ledger):
+        """The ledger after an entry of this part."""
+        if kind == "REFab" or kind == "REFpb" and self.counter == 7:
+            return max(ledger[0] - 1, -8), ledger[2], ledger[2]
         return ledger
 
     def stand(self, t, ledger):
@@ -146,11 +149,18 @@ class Judge:
         found = [e for e in self.past if e.kind in kinds and bank in (None, e.bank) and ap in (None, e.ap)]
         return found[-1:]
 
+    def heard(self, place):
+        """The latest RD, WR, or RD or MRR, as the record remembers it."""
+        found = self.latest(BUS[place])
+        stamps = [self.odd["at-" + place]] if "at-" + place in self.odd else [e.stamp for e in found]
+        mr2 = self.noted.get("noted-" + place, found[0].mr2 if found else 0)
+        return [Entry(stamp, place, mr2=mr2) for stamp in stamps]
+
     def exit_from(self, level):
         return [e for e in self.past if e.kind == "RISE" and e.level == level][-1:]
 
-    def delays(self, kind, bank, entry):
-        """(rule, first permitted cycle) for each clause of each rule that speaks of this command, or of this move."""
+    def delays(self, kind, bank, entry, other):
+        """(rule, first permitted cycle) for each clause of each rule that speaks of this command, or of this move; `other` is the other part, if there is one."""
         n, latest = clocks(self.card), self.latest
         everyone = range(8)
         idle = everyone if kind in ("REFab", "MRW") else [bank] if kind in ("ACT", "REFpb") else []
@@ -188,10 +198,11 @@ class Judge:
         if active:
             four = [e for e in self.past if e.kind in ("ACT", "REFpb")][-4:]
             out += after(11, four[:1] if len(four) == 4 else [], n["tFAW"])
-        if kind in ("RD", "MRR"):
-            out += after(12, latest(["RD"]), 4) + after(14, latest(["WR"]), lambda e: e.wl() + 5 + n["tWTR"])
-        if kind == "WR":
-            out += after(12, latest(["WR"]), 4) + after(13, latest(["RD", "MRR"]), lambda e: e.rl() + n["tDQSCK"] + 5 - e.wl())
+        for rule, part, gap in [(12, self, 0)] + ([(25, other, self.card["gap"])] if other else []):
+            if kind in ("RD", "MRR"):
+                out += after(rule, part.heard("rd"), 4 + gap) + after(rule + 2, part.heard("wr"), lambda e: e.wl() + 5 + n["tWTR"] + gap)
+            if kind == "WR":
+                out += after(rule, part.heard("wr"), 4 + gap) + after(rule + 1, part.heard("turn"), lambda e: e.rl() + n["tDQSCK"] + 5 - e.wl() + gap)
         exits = {level: self.exit_from(level) for level in ("power-down", "self-refresh")}
         if entry == "FALL":
             out += after(21, exits["power-down"] + exits["self-refresh"], n["tCKE"])
@@ -203,32 +214,26 @@ class Judge:
             out += after(22, exits["power-down"], n["tXP"]) + after(24, exits["self-refresh"], n["tXSR"])
         return out
 
-    # ---- the calls
-    def step(self, stamp, pins):
-        refuse(not self.good(), 13)
-        refuse(self.last is not None and stamp <= self.last or stamp < self.at, 5)
-        ledger = self.idle(stamp - 1)
-        read = allpins.read(self.card["sleeps"], self.level, pins)
-        refuse(read in (6, 7, 16), read)
-        kind, numbers = read
+    # ---- an entry
+    def judge(self, stamp, kind, numbers, other):
+        """8, 9 and 10."""
         bank = self.counter if kind == "REFpb" else numbers.get("bank")
         like = judged_as(kind, numbers)
         refuse(not self.state_good(like, bank), 8)
         if kind == "MRW":
             refuse(numbers["ma"] == 1 and numbers["op"] & 7 != 0b011, 9)
             refuse(numbers["ma"] == 2 and not writable(self.card["period"], numbers["op"]), 9)
-        delays = self.delays(like, bank, kind)
-        for rule in [*range(1, 19), *range(21, 25)]:
+        delays = self.delays(like, bank, kind, other)
+        for rule in [*range(1, 19), *range(21, 28)]:
             first = max([cycle for r, cycle in delays if r == rule], default=0)
             refuse(stamp < first, 10, rule, first)
-        if self.at < stamp and self.runs():
-            ledger = self.due(ledger)
-        if kind == "REFab" or kind == "REFpb" and self.counter == 7:
-            ledger = max(ledger[0] - 1, -8), ledger[2], ledger[2]
-        self.account(stamp, ledger)
+
+    def take(self, stamp, kind, numbers):
+        bank = self.counter if kind == "REFpb" else numbers.get("bank")
         self.past.append(Entry(stamp, kind, bank, bool(numbers.get("ap")), self.mr2, self.level))
-        self.last = stamp
-        self.stand(stamp, ledger)
+        for place in [place for place, kinds in BUS.items() if kind in kinds]:
+            self.odd.pop("at-" + place, None)
+            self.noted.pop("noted-" + place, None)
         if kind == "MRW" and numbers["ma"] == 2:
             self.mr2 = numbers["op"]
         if kind == "REFpb":
@@ -236,35 +241,14 @@ class Judge:
         if kind == "REFab" or kind == "RISE" and self.level == "self-refresh":
             self.counter = 0
         self.level = {"FALL": numbers.get("level"), "RISE": "awake"}.get(kind, self.level)
-        return "taken"
 
-    def end(self, cycle):
-        refuse(not self.good(), 13)
-        refuse(self.last is not None and cycle < self.last or cycle < self.at, 5)
-        return self.idle(cycle)[0]
-
-    def move(self, cycle):
-        refuse(not self.ledger_good(), 13)
-        refuse(cycle < self.at, 5)
-        self.stand(cycle, self.idle(cycle))
-        return self.number
-
+    # ---- what may be put
     def put_move(self, kind, level, stamp):
         """A stamp where the record remembers the latest fall, or the latest exit from a level."""
         self.past = [e for e in self.past if (e.kind, kind == "RISE" and e.level) != (kind, level)] + [Entry(stamp, kind, level=level)]
 
     def put(self, place, value):
-        if place in ("period", "R", "tREFI", "sleeps"):
-            self.card[place] = value
-        elif place == "starting":
-            self.card["mr2"] = value
-        elif place in TIMINGS:
-            self.card["ps"][TIMINGS.index(place)] = value
-        elif place.endswith("floor"):
-            self.card["floor"][TIMINGS.index(place[:-5])] = value
-        elif place == "last":
-            self.last = None if value == "none" else value
-        elif place == "four":
+        if place == "four":
             pass  # a count above 4: no refusal, and read as 4
         elif place == "level":
             self.level = LEVELS[value]
@@ -279,6 +263,92 @@ class Judge:
             setattr(self, place, value)
 
 
+def idle(parts, to):
+    """Each part's ledger as after cycle `to` with no entry. Where both fail at one cycle the first part's rule is named."""
+    ledgers = [(part.number, part.since, part.count()) for part in parts]
+    running = [i for i, part in enumerate(parts) if part.runs()]
+    for t in range(min([parts[i].at for i in running], default=to) + 1, to + 1):
+        for i in running:
+            if parts[i].at < t:
+                ledgers[i] = parts[i].due(ledgers[i])
+                parts[i].account(t, ledgers[i])
+    return ledgers
+
+
+class Judge:
+    """The card, the last entry's stamp, of whichever part, and both parts; without tag 25 there is the first alone."""
+
+    def __init__(self):
+        self.card = {k: v[:] if isinstance(v, list) else v for k, v in BENCH.items()}
+        self.last, self.both = None, [Part(self.card), Part(self.card)]
+
+    def parts(self):
+        return self.both[:2 if self.card["paired"] else 1]
+
+    def good(self):
+        return card_good(self.card) and all(part.good(self.last) for part in self.parts())
+
+    def read(self, pins):
+        """Whose it is (none's with both CS_n high), and what it is."""
+        if not self.card["paired"]:
+            return self.both[0], allpins.read(self.card["sleeps"], self.both[0].level, pins)
+        own = allpins.whose(pins)
+        return None if own is None else self.both[own], allpins.read_shared(pins)
+
+    def at_stamp(self, stamp, own, kind, ledgers):
+        """The ledgers after the stamp; 11 there, the first part's first."""
+        ledgers = [part.due(ledger) if part.at < stamp and part.runs() else ledger for part, ledger in zip(self.parts(), ledgers)]
+        ledgers = [part.counted(kind, ledger) if part is own else ledger for part, ledger in zip(self.parts(), ledgers)]
+        for part, ledger in zip(self.parts(), ledgers):
+            part.account(stamp, ledger)
+        return ledgers
+
+    # ---- the calls
+    def step(self, stamp, pins):
+        refuse(not self.good(), 13)
+        refuse(self.last is not None and stamp <= self.last or any(stamp < part.at for part in self.parts()), 5)
+        ledgers = idle(self.parts(), stamp - 1)
+        own, read = self.read(pins)
+        refuse(read in (6, 24, 7, 16), read)
+        kind, numbers = read
+        if own:
+            own.judge(stamp, kind, numbers, next((part for part in self.parts() if part is not own), None))
+        ledgers = self.at_stamp(stamp, own, kind, ledgers)
+        self.last = stamp
+        for part, ledger in zip(self.parts(), ledgers):
+            part.stand(stamp, ledger)
+        if own:
+            own.take(stamp, kind, numbers)
+        return "taken"
+
+    def end(self, cycle):
+        refuse(not self.good(), 13)
+        refuse(self.last is not None and cycle < self.last or any(cycle < part.at for part in self.parts()), 5)
+        return " ".join(str(number) for number, since, count in idle(self.parts(), cycle))
+
+    def move(self, cycle, part):
+        """Of this part's ledger, lent alone."""
+        lent = self.both[part]
+        refuse(not lent.ledger_good(), 13)
+        refuse(cycle < lent.at, 5)
+        lent.stand(cycle, idle([lent], cycle)[0])
+        return lent.number
+
+    def put(self, place, value, part):
+        if place in ("period", "R", "tREFI", "sleeps", "paired", "gap"):
+            self.card[place] = value
+        elif place == "starting":
+            self.card["mr2"] = value
+        elif place in TIMINGS:
+            self.card["ps"][TIMINGS.index(place)] = value
+        elif place.endswith("floor"):
+            self.card["floor"][TIMINGS.index(place[:-5])] = value
+        elif place == "last":
+            self.last = None if value == "none" else value
+        else:
+            self.both[part].put(place, value)
+
+
 MOVES = {"at-fall": ("FALL", False), "at-power-exit": ("RISE", "power-down"), "at-self-exit": ("RISE", "self-refresh")}
 
 
@@ -286,9 +356,23 @@ MOVES = {"at-fall": ("FALL", False), "at-power-exit": ("RISE", "power-down"), "a
 MOVE_PINS = {"POWER-DOWN": 0x100000, "SELF-REFRESH": 0x00000C, "DEEP-POWER-DOWN": 0x000003, "ASLEEP": 0x000000, "WAKE": 0x300000}
 # the bench card with tags 19 to 22: 6, 8, 12 and 112 cycles
 SLEEPER = ["put sleeps 1", "put tCKE 7500", "put tXP 10000", "put tCKESR 15000", "put tXSR 140000"]
+# with tag 25: a gap of 2 clocks
+PAIR = ["put paired 1", "put gap 2"]
+CARDS = {"sleeper": SLEEPER, "pair": PAIR}
 
 
-def pins_of(words):
+def parted(call):
+    """The words without the part, and the part, if one is named."""
+    words = call.split()
+    if "part" not in words:
+        return words, None
+    i = words.index("part")
+    return words[:i] + words[i + 2:], int(words[i + 1])
+
+
+def pins_of(words, part):
+    if words == ["NOP", "both"]:
+        return allpins.pins_of("NOP", {}, paired=True)
     kind, numbers = words[0], [int(w, 16) for w in words[1:]]
     if kind == "pins":
         return numbers[0]
@@ -298,18 +382,18 @@ def pins_of(words):
     fields = {"MRW": ("ma", "op"), "MRR": ("ma",), "ACT": ("bank",), "RD": ("bank",), "WR": ("bank",), "PRE": ("bank",)}
     plain = names.get(kind, kind)
     values = {"row": 0, "column": 0, "ap": kind in ("RDA", "WRA"), **dict(zip(fields.get(plain, ()), numbers))}
-    return allpins.pins_of(plain, values)
+    return allpins.pins_of(plain, values, part, part is not None)
 
 
 def run(judge, call):
-    words = call.split()
+    words, part = parted(call)
     if words[0] == "put":
-        return judge.put(words[1], words[2] if words[2] == "none" else int(words[2], 0))
+        return judge.put(words[1], words[2] if words[2] == "none" else int(words[2], 0), part or 0)
     if words[0] == "E":
         return judge.end(int(words[1]))
     if words[0] == "move":
-        return judge.move(int(words[1]))
-    return judge.step(int(words[-1]), pins_of(words[:-2]))
+        return judge.move(int(words[1]), part or 0)
+    return judge.step(int(words[-1]), pins_of(words[:-2], part))
 
 
 def cases():
@@ -317,16 +401,15 @@ def cases():
     text = (pathlib.Path(__file__).parent / "cases.txt").read_text()
     lines = [line for line in text.split("\n") if line and not line.startswith("#")]
     calls = [[call.strip() for call in line.split(",")] for line in lines]
-    return [(case, SLEEPER + line[1:] if line[0] == "sleeper" else line) for case, line in enumerate(calls, 1)]
+    return [(case, CARDS[line[0]] + line[1:] if line[0] in CARDS else line) for case, line in enumerate(calls, 1)]
 
 
 # ---- the calls, as the program has them: two words each
 PLACES = {"starting": "STARTING_MR2", "R": "GROUPS", "at": "LEDGER_AT", "number": "OWED", "four": "FOUR_COUNT"}
 
 
-def words_of(call, names):
+def words_of(words, part, names):
     """The first word's name and the second; `names` gathers the pins that are called by a name."""
-    words = call.split()
     if words[0] == "put":
         if words[1:] == ["last", "none"]:
             return "NO_LAST", 0
@@ -337,14 +420,26 @@ def words_of(call, names):
     if words[0] == "pins":
         return "0x" + words[1].lower(), int(words[-1])
     name = "MRR" if words[:2] == ["MRR", "0"] else "_".join(words[:-2]).replace("-", "_")
-    names[name] = pins_of(words[:-2])
+    name += "" if part is None else "_PART_%d" % part
+    names[name] = pins_of(words[:-2], part)
     return name, int(words[-1])
+
+
+def rows_of(case, calls, names):
+    rows, lent = [("CASE", case)], 0
+    for call in calls:
+        words, part = parted(call)
+        if words[0] in ("put", "move") and lent != (part or 0):
+            lent = part or 0
+            rows.append(("PART", lent))
+        rows.append(words_of(words, part, names))
+    return rows
 
 
 def table():
     names, rows = {}, []
     for case, calls in cases():
-        rows += [("CASE", case)] + [words_of(call, names) for call in calls]
+        rows += rows_of(case, calls, names)
     consts = "".join("const %s: u32 = 0x%x;\n\n" % item for item in names.items())
     words = "".join("    %s,\n    %d,\n" % row for row in rows)
     print(TABLE % {"consts": consts, "count": len(rows), "twice": 2 * len(rows), "words": words}, end="")
@@ -352,7 +447,8 @@ def table():
 
 TABLE = """\
 // The calls of all cases, two numbers each: what is called, and a stamp, a cycle or a value. Pins are an entry; a place of the record is a
-// value put there; CASE is the next case, a line of cases.txt, whose record starts fresh with the bench card.
+// value put there; CASE is the next case, a line of cases.txt, whose record starts fresh with the bench card; PART is whose places and ledger those behind it are,
+// the first part's before it.
 ghost use Prim.Native.Nat.{_<_};
 use crate::places::*;
 
@@ -362,7 +458,9 @@ pub const END: u32 = 0x2000001;
 
 pub const MOVE: u32 = 0x2000002;
 
-// Pins: a command with its bank, or with MA and OP in hexadecimal; a move of clock-enable.
+pub const PART: u32 = 0x2000003;
+
+// Pins: a command with its bank, or with MA and OP in hexadecimal, and of two parts with its part; a move of clock-enable.
 %(consts)spub const COUNT: usize = %(count)d;
 
 const WORDS: [u32; %(twice)d] = [
@@ -388,6 +486,28 @@ pub fn cycle_at(i: usize) -> u32
 """
 
 
+# ---- the writer
+def written(paired, part, room, kind, numbers):
+    answer, buffer = allpins.write(paired, part, 0, room, kind, numbers)
+    return "refused %d 0 0" % answer if answer else " ".join(map(str, buffer[7:10]))
+
+
+def writing():
+    """ACT bank 5, row 1234 hex, and NOP, for each part that may be told; with too little room; and what is read of the ACT."""
+    act = {"bank": 5, "row": 0x1234}
+    for paired in False, True:
+        for part in None, 0, 1, 2, 255:
+            print(written(paired, part, 10, "ACT", act))
+            print(written(paired, part, 10, "NOP", {}))
+    for part in None, 0, 1, 2:
+        print(written(True, part, 9, "ACT", act))
+    kind, read = allpins.decode(0x20D2CA)
+    print(read["bank"], read["row"])
+    for pins in 0x60D2CA, 0x30D2CA:
+        kind, read = allpins.read_shared(pins)
+        print(allpins.whose(pins), read["bank"], read["row"])
+
+
 def main():
     if sys.argv[1:] == ["table"]:
         return table()
@@ -400,10 +520,7 @@ def main():
                 told = "refused %d %d %d" % refused.args
             if told is not None:
                 print(case, told)
-    act = {"bank": 5, "row": 0x1234}
-    print(*allpins.pins_of("ACT", act).to_bytes(3, "big"))
-    kind, read = allpins.decode(0x20D2CA)
-    print(read["bank"], read["row"])
+    writing()
 
 
 if __name__ == "__main__":

@@ -1,10 +1,14 @@
-// All 2^20 CA patterns with CS_n low and clock enable high, others with CS_n high, clock enable low or a bit above 21 set, and commands that the
-// writer refuses. For each rising edge a line: its kind in the table, and a digest of what its patterns are decoded as and of the buffer after
-// writing. The file stdout is worked out by expected.py from the list in document 01.
+// All 2^20 CA patterns with clock enable high, in a trace of one part with CS_n low, and in one of two as each part's; others with all that can stand above
+// the CA bits; and commands that the writer refuses, for what they carry or for the part. For each rising edge a line: its kind in the table, and a digest of
+// what its patterns are read as and of the buffer after writing. The file stdout is worked out by expected.py from the lists in the documents.
 ghost use Prim.Native.Nat.{_≤_, _<_};
 use libc::STDOUT_FILENO;
 use pins::Command;
 use pins::Decoded;
+use pins::Level;
+use pins::Read;
+use pins::Told;
+use pins::Whose;
 use pins::Wrote;
 
 fn mix(h: u64, x: u64) -> u64 {
@@ -65,37 +69,77 @@ fn answer(wrote: Wrote) -> u64 {
 }
 
 // Writes at the start of a buffer of twelve bytes, of which the first few are lent.
-fn put(h: u64, stamp: u32, room: usize, command: Command) -> u64
+fn put(h: u64, paired: bool, told: Told, stamp: u32, room: usize, command: Command) -> u64
     requires { ⌜ room ≤ 12 ⌝ }
 {
     let mut buffer = [165u8; 12];
-    let wrote = pins::write_entry(stamp, command, &mut buffer[..room]);
+    let wrote = pins::write_entry(paired, told, stamp, command, &mut buffer[..room]);
     mix_bytes(mix(h, answer(wrote)), &buffer)
 }
 
-fn decoded(h: u64, pins: u32) -> u64 {
-    match pins::decode(pins) {
-        Decoded::Good(command) => put(mix(h, numbers(command)), pins % 1048576 * 4093, 12, command),
+fn again(h: u64, paired: bool, told: Told, pins: u32, decoded: Decoded) -> u64 {
+    match decoded {
+        Decoded::Good(command) => put(
+            mix(h, numbers(command)),
+            paired,
+            told,
+            pins % 1048576 * 4093,
+            12,
+            command,
+        ),
         Decoded::WrongBits => mix(h, 6),
         Decoded::Reserved => mix(h, 7),
     }
 }
 
-// CS_n high; clock enable low, with CS_n low and high; bits 22, 23, 24.
-fn others(h: u64, rising: u32) -> u64
+fn decoded(h: u64, pins: u32) -> u64 {
+    again(h, false, Told::Nobody, pins, pins::decode(pins))
+}
+
+fn place(whose: Whose) -> u64 {
+    match whose {
+        Whose::Sole => 0,
+        Whose::First => 1,
+        Whose::Second => 2,
+        Whose::Neither => 3,
+    }
+}
+
+fn part(whose: Whose) -> Told {
+    if pins::is_first(whose) {
+        return Told::Part(0);
+    }
+    if pins::is_second(whose) {
+        return Told::Part(1);
+    }
+    Told::Nobody
+}
+
+// In a trace of two parts, where no move of clock-enable comes.
+fn shared(h: u64, pins: u32) -> u64 {
+    let whose = pins::whose_pins(true, pins);
+    let of = mix(h, place(whose));
+    match pins::read_pins(false, true, Level::Awake, pins) {
+        Read::Plain(decoded) => again(of, true, part(whose), pins, decoded),
+        Read::Clash => mix(of, 24),
+        _ => of,
+    }
+}
+
+// The five bits above CA.
+fn others(from: u64, rising: u32) -> u64
     requires { ⌜ rising < 1024 ⌝ }
 {
     let ca = (1023 - rising) * 1024 + rising;
-    let high = decoded(h, 0x300000 + ca);
-    let low = decoded(decoded(high, ca), 0x100000 + ca);
-    decoded(
-        decoded(decoded(low, 0x600000 + ca), 0xa00000 + ca),
-        0x1200000 + ca,
-    )
+    let mut h = from;
+    for high in 0..32u32 {
+        h = shared(decoded(h, high * 1048576 + ca), high * 1048576 + ca);
+    }
+    h
 }
 
 // Commands in and out of range, into 0 to 12 bytes of room.
-fn made(h: u64, n: u32) -> u64
+fn made(h: u64, paired: bool, told: Told, n: u32) -> u64
     requires { ⌜ n < 1024 ⌝ }
 {
     let bank = (n % 16) as u8;
@@ -103,28 +147,24 @@ fn made(h: u64, n: u32) -> u64
     let byte = (n % 256) as u8;
     let room = (n % 13) as usize;
     let ap = n % 3 == 0;
-    let act = put(
-        h,
-        n,
-        room,
-        Command::Act {
-            bank,
-            row: (n * 61) as u16,
-        },
-    );
-    let rd = put(act, n, room, Command::Rd { bank, column, ap });
-    let wr = put(rd, n, room, Command::Wr { bank, column, ap });
-    let pre = put(wr, n, room, Command::Pre { bank: byte });
-    let mrr = put(pre, n, room, Command::Mrr { ma: byte });
-    put(
-        mrr,
-        n,
-        room,
-        Command::Mrw {
-            ma: byte,
-            op: (n / 4) as u8,
-        },
-    )
+    let row = (n * 61) as u16;
+    let op = (n / 4) as u8;
+    let act = put(h, paired, told, n, room, Command::Act { bank, row });
+    let rd = put(act, paired, told, n, room, Command::Rd { bank, column, ap });
+    let wr = put(rd, paired, told, n, room, Command::Wr { bank, column, ap });
+    let pre = put(wr, paired, told, n, room, Command::Pre { bank: byte });
+    let mrr = put(pre, paired, told, n, room, Command::Mrr { ma: byte });
+    let mrw = put(mrr, paired, told, n, room, Command::Mrw { ma: byte, op });
+    put(mrw, paired, told, n, room, Command::Nop)
+}
+
+// With no part, and with a part from 0 to 2, in a trace of one part and in one of two.
+fn all_made(h: u64, n: u32) -> u64
+    requires { ⌜ n < 1024 ⌝ }
+{
+    let told = Told::Part((n % 3) as u8);
+    let one = made(made(h, false, Told::Nobody, n), false, told, n);
+    made(made(one, true, Told::Nobody, n), true, told, n)
 }
 
 fn show(rising: usize, digest: u64)
@@ -141,11 +181,13 @@ fn show(rising: usize, digest: u64)
 fn next(h: u64, rising: u32, falling: u32) -> u64
     requires { ⌜ (rising < 1024) × (falling < 1024) ⌝ }
 {
-    let digest = decoded(h, 0x200000 + falling * 1024 + rising);
+    let ca = falling * 1024 + rising;
+    let one = decoded(h, 0x200000 + ca);
+    let digest = shared(shared(one, 0x600000 + ca), 0x300000 + ca);
     if falling < 1023 {
         return digest;
     }
-    show(rising as usize, made(others(digest, rising), rising));
+    show(rising as usize, all_made(others(digest, rising), rising));
     0
 }
 

@@ -3,6 +3,7 @@ use Prim.Native.Nat.{ℕ, _≤_}
 use mathlib.Core.Path.{_≡_, refl}
 use mathlib.Core.Bool.{Bool, true, false, cond, _&&_, _||_}
 use mathlib.Core.List.{[], _∷_}
+use mathlib.Core.Option.{Option}
 use lib.Dec.{eqb}
 use lib.ListN.{getD}
 use Rattle.rules.specs.Commands.{Command, MRW, MRR, REFPB, REFAB, ACT, RD, WR, PRE, PREA, is, bankOf, apOf}
@@ -40,11 +41,10 @@ use Rattle.rules.specs.Delays.{
 use Rattle.rules.specs.Lent.{remembered, historyAfter}
 use Rattle.ledger.specs.declared.Ledger.{Ledger}
 use Rattle.bank.specs.Values.{entry, once, each, preOf, preaOf, asked, shareOf}
-use Rattle.bank.specs.After.{AfterArgs, onceIf, fourAfter, latestAfter, movesAfter, busAfter, stampedAfter, banksAfter, shareAfter}
+use Rattle.bank.specs.After.{ShareArgs, onceIf, fourAfter, latestAfter, movesAfter, busAfter, stampedAfter, banksAfter, shareAfter}
 use Rattle.bank.specs.declared.Once.{Once}
 use Rattle.bank.specs.declared.Share.{Share}
-use Rattle.bank.specs.declared.Record.{Record}
-use Rattle.bank.proofs.Sizes.{Whole}
+use Rattle.bank.proofs.Sizes.{ShareWhole}
 use Rattle.bank.proofs.Places.{four-after}
 use Rattle.bank.proofs.Precharged.{both-after, pre-below, prea-below}
 use Rattle.bank.proofs.Remembered.{once-after, noted-after, each-seen, each-at, each-after, notedEach-after, one-precharge, bank-low}
@@ -59,10 +59,7 @@ unfolding onceIf
 once-stamp true t x = refl
 once-stamp false t x = refl
 
-module _ (r : Record) (c : Command) (v : Move) (t : ℕ) (g : Ledger) (w : Whole r) (a : AfterArgs r t c) where
-  abbrev s : Share
-  s = r .share
-
+module _ (last : Option ℕ) (s : Share) (c : Command) (v : Move) (t : ℕ) (g : Ledger) (w : ShareWhole s) (a : ShareArgs last s t c) where
   abbrev k : ℕ
   k = bankAt c (s .counter)
 
@@ -83,8 +80,8 @@ module _ (r : Record) (c : Command) (v : Move) (t : ℕ) (g : Ledger) (w : Whole
         once-stamp (is PREA c) t x,
       )
       (both-after t (getD (p .at) b 0) (x .at) (is PREA c) (is PRE c) (eqb (bankOf c) b) (getD (p .seen) b false) (x .seen) (one-precharge c)
-      (pre-below r t w (a .stamps) (a .rising) b)
-      (prea-below r t w (a .stamps) (a .rising)))
+      (pre-below last s t w (a .stamps) (a .rising) b)
+      (prea-below last s t w (a .stamps) (a .rising)))
 
   pub remembers : (q : Ask) (b : ℕ)
       → asked (shareAfter s c v t g) q b ≡ historyAfter c v (s .counter) t (s .mr2) (shareOf s .history) (record { ask = q; bank = b })

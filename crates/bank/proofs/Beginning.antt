@@ -1,8 +1,9 @@
 -- A fresh record is the rules' fresh record.
 use Prim.Native.Nat.{ℕ}
 use mathlib.Core.Path.{_≡_, refl}
-use mathlib.Core.Bool.{false}
+use mathlib.Core.Bool.{Bool, true, false, cond}
 use mathlib.Core.List.{[]}
+use lib.Dec.{ltb, eqb}
 use Rattle.rules.specs.Delays.{
   Ask,
   lastMRW,
@@ -43,19 +44,21 @@ use Rattle.bank.specs.Values.{
   asked,
   lastOf,
   shareOf,
+  shareIn,
   lentOf,
   never,
   neverNoted,
   neverEach,
   neverNotedEach,
   neverFour,
+  idleBus,
   freshShare,
   freshOf,
 }
 use Rattle.bank.proofs.Places.{same-everywhere}
 
 nothing : (m : ℕ) (a : Ask) (b : ℕ) → asked (freshShare m) a b ≡ []
-unfolding kept once noted each notedEach four outweighed preOf preaOf asked never neverNoted neverEach neverNotedEach neverFour freshShare
+unfolding kept once noted each notedEach four outweighed preOf preaOf asked never neverNoted neverEach neverNotedEach neverFour idleBus freshShare
 nothing m lastMRW b = refl
 nothing m lastMRR b = refl
 nothing m lastREFab b = refl
@@ -76,16 +79,24 @@ nothing m lastFall b = refl
 nothing m lastPowerExit b = refl
 nothing m lastSelfExit b = refl
 
-pub fresh-lent : (card : Card) → lentOf (freshOf card) ≡ lent.fresh (cardOf card)
-unfolding lentOf shareOf lent.fresh lastOf ledgerOf levelOf cardOf freshOf freshShare never
-fresh-lent card = λ i. record {
-  card = cardOf card;
-  last = lastOf never;
-  share = record {
-    mr2 = card .mr2;
-    open? = λ b. same-everywhere 8 b false i;
-    counter = 0;
-    history = λ q. nothing (card .mr2) (q .ask) (q .bank) i;
-    ledger = ledgerOf (freshShare (card .mr2) .ledger);
-  };
+pub fresh-share : (card : Card) → shareOf (freshShare (card .mr2)) ≡ lent.freshShare (cardOf card)
+unfolding shareOf lent.freshShare ledgerOf levelOf cardOf freshShare
+fresh-share card = λ i. record {
+  mr2 = card .mr2;
+  open? = λ b. same-everywhere 8 b false i;
+  counter = 0;
+  history = λ q. nothing (card .mr2) (q .ask) (q .bank) i;
+  ledger = ledgerOf (freshShare (card .mr2) .ledger);
 }
+
+pub fresh-lent : (card : Card) → lentOf (freshOf card) ≡ lent.fresh (cardOf card)
+unfolding lentOf lent.fresh lastOf freshOf never
+fresh-lent card = λ i. record { card = cardOf card; last = lastOf never; share = λ p. each-share p i }
+  where
+    each-share : (p : ℕ) → shareIn (freshOf card) p ≡ lent.freshShare (cardOf card)
+    each-share p = unfold shareIn freshOf in go (ltb p 2) (eqb p 0)
+      where
+        go : (x y : Bool) → cond x (shareOf (cond y (freshShare (card .mr2)) (freshShare (card .mr2)))) (lent.freshShare (cardOf card)) ≡ lent.freshShare (cardOf card)
+        go true true = fresh-share card
+        go true false = fresh-share card
+        go false y = refl

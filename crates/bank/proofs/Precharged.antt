@@ -16,10 +16,10 @@ use Rattle.rules.specs.Delays.{lastPRE-to}
 use Rattle.rules.specs.Lent.{History, asks, allStored, notAbove, aboveLast, stampsGood}
 use Rattle.rules.proofs.Onward.{at-each}
 use Rattle.rules.proofs.Tests.{lt-cases, both-true}
-use Rattle.bank.specs.Values.{entry, kept, once, each, outweighed, preOf, preaOf, asked, shareOf, lentOf}
-use Rattle.bank.specs.declared.Record.{Record}
+use Rattle.bank.specs.Values.{entry, kept, once, each, outweighed, preOf, preaOf, asked, shareOf}
+use Rattle.bank.specs.declared.Share.{Share}
 use Rattle.bank.proofs.Stored.{all-onward}
-use Rattle.bank.proofs.Sizes.{Whole}
+use Rattle.bank.proofs.Sizes.{ShareWhole}
 
 -- this one, unless the other came later
 abbrev pub shown : (seen : Bool) (at : ℕ) (other : Bool) (later : ℕ) → List (Found ℕ)
@@ -82,31 +82,31 @@ module _ (P : ℕ → Bool) (t : ℕ) (below : (s : ℕ) → P s ≡ true → s 
       (λ x. a, λ x. omega (arith, a, l .0)))
       (lt-cases p u)
 
-module _ (r : Record) (t : ℕ) (w : Whole r) (good : stampsGood (lentOf r .last) (lentOf r .share) ≡ true) (rising : aboveLast (lentOf r .last) t ≡ true) where
+module _ (last : Option ℕ) (x : Share) (t : ℕ) (w : ShareWhole x) (good : stampsGood last (shareOf x) ≡ true) (rising : aboveLast last t ≡ true) where
   stored : (i : ℕ) → i < length asks → (b : ℕ) → b < 8
-      → all (λ (f : Found ℕ). notAbove (lentOf r .last) (f .stamp)) (lentOf r .share .history (record { ask = getD asks i lastPRE-to; bank = b })) ≡ true
+      → all (λ (f : Found ℕ). notAbove last (f .stamp)) (shareOf x .history (record { ask = getD asks i lastPRE-to; bank = b })) ≡ true
   unfolding stampsGood allStored
   stored i hi b hb =
-      let P : Found ℕ → Bool = λ f. notAbove (lentOf r .last) (f .stamp) in
-      let h : History = lentOf r .share .history in
+      let P : Found ℕ → Bool = λ f. notAbove last (f .stamp) in
+      let h : History = shareOf x .history in
       let inner = all-at (λ a. all (λ k. all P (h (record { ask = a; bank = k }))) banks) asks i lastPRE-to hi good in
       at-each (λ k. all P (h (record { ask = getD asks i lastPRE-to; bank = k }))) 0 8 (sym (all-onward _) ∙ inner) b (omega arith) (omega arith)
 
   below-at : (b : ℕ) → b < 8
-      → (getD (r .share .banks .pre .seen) b false ≡ true → getD (r .share .banks .pre .at) b 0 < t) × (r .share .latest .prea .seen ≡ true → r .share .latest .prea .at < t)
-  unfolding asks lentOf shareOf asked preOf preaOf each once
+      → (getD (x .banks .pre .seen) b false ≡ true → getD (x .banks .pre .at) b 0 < t) × (x .latest .prea .seen ≡ true → x .latest .prea .at < t)
+  unfolding asks shareOf asked preOf preaOf each once
   below-at b h =
-      both-below (notAbove (lentOf r .last)) t (λ s e. rising-stamp (lentOf r .last) s t e rising)
-      (getD (r .share .banks .pre .seen) b false) (r .share .latest .prea .seen) (getD (r .share .banks .pre .at) b 0) (r .share .latest .prea .at)
+      both-below (notAbove last) t (λ s e. rising-stamp last s t e rising)
+      (getD (x .banks .pre .seen) b false) (x .latest .prea .seen) (getD (x .banks .pre .at) b 0) (x .latest .prea .at)
       (stored 5 (omega arith) b h) (stored 6 (omega arith) b h)
 
-  pub pre-below : (b : ℕ) → getD (r .share .banks .pre .seen) b false ≡ true → getD (r .share .banks .pre .at) b 0 < t
+  pub pre-below : (b : ℕ) → getD (x .banks .pre .seen) b false ≡ true → getD (x .banks .pre .at) b 0 < t
   pre-below b e =
       ⊎-elim (λ (l : (b < 8) × (ltb b 8 ≡ true)). below-at b (l .0) .0 e)
       (λ (l : (8 ≤ b) × (ltb b 8 ≡ false)).
       let z = w .pre .seen in
-      false-true (sym (List·getD-eq-default (r .share .banks .pre .seen) false {n = b} (omega arith)) ∙ e))
+      false-true (sym (List·getD-eq-default (x .banks .pre .seen) false {n = b} (omega arith)) ∙ e))
       (lt-cases b 8)
 
-  pub prea-below : r .share .latest .prea .seen ≡ true → r .share .latest .prea .at < t
+  pub prea-below : x .latest .prea .seen ≡ true → x .latest .prea .at < t
   prea-below = below-at 0 (omega arith) .1

@@ -6,6 +6,7 @@ use mathlib.Core.List.{List, map}
 use lib.ListN.{length, length-map}
 use Rattle.bank.specs.declared.Each.{Each}
 use Rattle.bank.specs.declared.NotedEach.{NotedEach}
+use Rattle.bank.specs.declared.Share.{Share}
 use Rattle.bank.specs.declared.Record.{Record}
 
 -- as owning an array tells it
@@ -28,12 +29,16 @@ pub noted-whole : (x : NotedEach) → length (map (λ (v : Bool). v) (x .seen)) 
     → length (map (λ (v : ℕ). v) (x .mr2)) ≡ 8 → NotedWhole x
 noted-whole x s a m = record { seen = held (x .seen) s; at = held (x .at) a; mr2 = held (x .mr2) m }
 
+pub record ShareWhole (s : Share) : Type 0 where
+  pub opened : length (s .banks .opened) ≡ 8
+  pub refpb : EachWhole (s .banks .refpb)
+  pub pre : EachWhole (s .banks .pre)
+  pub act : EachWhole (s .banks .act)
+  pub rd : EachWhole (s .banks .rd)
+  pub rda : EachWhole (s .banks .rda)
+  pub wr : NotedWhole (s .banks .wr)
+  pub wra : NotedWhole (s .banks .wra)
+
 pub record Whole (r : Record) : Type 0 where
-  pub opened : length (r .share .banks .opened) ≡ 8
-  pub refpb : EachWhole (r .share .banks .refpb)
-  pub pre : EachWhole (r .share .banks .pre)
-  pub act : EachWhole (r .share .banks .act)
-  pub rd : EachWhole (r .share .banks .rd)
-  pub rda : EachWhole (r .share .banks .rda)
-  pub wr : NotedWhole (r .share .banks .wr)
-  pub wra : NotedWhole (r .share .banks .wra)
+  pub first : ShareWhole (r .first)
+  pub second : ShareWhole (r .second)

@@ -3,18 +3,19 @@ use Prim.Native.Nat.{ℕ, _+_, _≤_}
 use mathlib.Core.Path.{_≡_}
 use mathlib.Core.Bool.{Bool, true, false, cond, _&&_, _||_}
 use mathlib.Core.List.{List, [], _∷_}
-use mathlib.Core.Option.{some}
-use lib.Dec.{leb}
+use mathlib.Core.Option.{Option, some}
+use lib.Dec.{leb, ltb, eqb}
 use lib.ListN.{getD, set, replicate}
 use Rattle.rules.specs.Commands as rules
 use Rattle.rules.specs.Commands.{MRW, MRR, REFPB, REFAB, ACT, RD, WR, PRE, PREA, is, bankOf, apOf}
+use Rattle.rules.specs.Whose.{Whose, isOf}
 use Rattle.rules.specs.Levels.{powerDown, selfRefresh, Move, isFall, risesFrom}
 use Rattle.rules.specs.Past.{registerAfter, bankAt}
 use Rattle.rules.specs.Lent as lent
 use Rattle.pins.specs.Counter.{counterOn}
 use Rattle.ledger.specs.declared.Ledger.{Ledger}
 use Rattle.ledger.specs.Values.{ledgerOf}
-use Rattle.bank.specs.Values.{lentOf}
+use Rattle.bank.specs.Values.{lastOf, shareOf, shareAt, lentOf}
 use Rattle.bank.specs.declared.Once.{Once}
 use Rattle.bank.specs.declared.Noted.{Noted}
 use Rattle.bank.specs.declared.Each.{Each}
@@ -25,18 +26,25 @@ use Rattle.bank.specs.declared.Moves.{Moves}
 use Rattle.bank.specs.declared.Bus.{Bus}
 use Rattle.bank.specs.declared.Banks.{Banks}
 use Rattle.bank.specs.declared.Share.{Share}
+use Rattle.bank.specs.declared.Ledgers.{Ledgers}
 use Rattle.bank.specs.declared.Record.{Record}
 
--- the lent record after an entry that was taken, with this command and move, and with this ledger
-unfoldable pub afterCommand : lent.Lent → rules.Command → Move → (stamp : ℕ) → lent.Ledger → lent.Lent
-afterCommand l c v t g = record { card = l .card; last = some t; share = lent.shareAfter c v t g (l .share) }
+-- the lent record after an entry of this part that was taken, with this command and move, and with these ledgers
+unfoldable pub shareBehind : (own : Bool) → rules.Command → Move → (stamp : ℕ) → lent.Ledger → lent.Share → lent.Share
+shareBehind own c v t g s = cond own (lent.shareAfter c v t g s) (lent.withLedger g s)
 
--- what a sound record and a rising stamp give; a command that was decoded has no bank above 7
-pub record AfterArgs (r : Record) (stamp : ℕ) (c : rules.Command) : Type 0 where
-  pub stamps : lent.stampsGood (lentOf r .last) (lentOf r .share) ≡ true
-  pub rising : lent.aboveLast (lentOf r .last) stamp ≡ true
-  pub counter : r .share .counter ≤ 7
+unfoldable pub afterCommand : lent.Lent → Whose → rules.Command → Move → (stamp : ℕ) → (ℕ → lent.Ledger) → lent.Lent
+afterCommand l w c v t g = record { card = l .card; last = some t; share = λ p. cond (ltb p 2) (shareBehind (isOf p w) c v t (g p) (l .share p)) (l .share p) }
+
+-- what a sound record and a rising stamp give of a part whose own entry it is; a command that was decoded has no bank above 7
+pub record ShareArgs (last : Option ℕ) (s : Share) (stamp : ℕ) (c : rules.Command) : Type 0 where
+  pub stamps : lent.stampsGood last (shareOf s) ≡ true
+  pub rising : lent.aboveLast last stamp ≡ true
+  pub counter : s .counter ≤ 7
   pub bank : bankOf c ≤ 7
+
+abbrev pub AfterArgs : Record → (p stamp : ℕ) → rules.Command → Type 0
+AfterArgs r p t c = ShareArgs (lastOf (r .last)) (shareAt r p) t c
 
 -- ---- one stamp, a stamp of one bank, and the last four
 abbrev pub onceAt : ℕ → Once
@@ -172,10 +180,40 @@ shareAfter s c v t g = record {
   ledger = g;
 }
 
-unfoldable pub recordAfter : Record → rules.Command → Move → (stamp : ℕ) → Ledger → Record
-recordAfter r c v t g = record { card = r .card; last = onceAt t; share = shareAfter (r .share) c v t g }
+abbrev pub withLedger : Share → Ledger → Share
+withLedger s g = record {
+  mr2 = s .mr2;
+  counter = s .counter;
+  latest = s .latest;
+  moves = s .moves;
+  bus = s .bus;
+  four = s .four;
+  banks = s .banks;
+  ledger = g;
+}
+
+-- of a part whose own entry it is, or is not
+unfoldable pub shareTaken : (own : Bool) → Share → rules.Command → Move → (stamp : ℕ) → Ledger → Share
+shareTaken own s c v t g = cond own (shareAfter s c v t g) (withLedger s g)
+
+-- the share to the bit, and what it then is to the rules
+pub record ShareChanged (own : Bool) (s : Share) (stamp : ℕ) (c : rules.Command) (v : Move) (g : Ledger) (r : Share) : Type 0 where
+  pub is : r ≡ shareTaken own s c v stamp g
+  pub lent : (last : Option ℕ) → (own ≡ true → ShareArgs last s stamp c) → shareOf r ≡ shareBehind own c v stamp (ledgerOf g) (shareOf s)
+
+unfoldable pub recordAfter : Record → Whose → rules.Command → Move → (stamp : ℕ) → Ledgers → Record
+recordAfter r w c v t g = record {
+  card = r .card;
+  last = onceAt t;
+  first = shareTaken (isOf 0 w) (r .first) c v t (g .first);
+  second = shareTaken (isOf 1 w) (r .second) c v t (g .second);
+}
+
+-- part p's
+unfoldable pub ledgerIn : Ledgers → ℕ → lent.Ledger
+ledgerIn g p = ledgerOf (cond (eqb p 0) (g .first) (g .second))
 
 -- the record to the bit, and what it then is to the rules
-pub record Changed (r : Record) (stamp : ℕ) (c : rules.Command) (v : Move) (g : Ledger) (s : Record) : Type 0 where
-  pub is : s ≡ recordAfter r c v stamp g
-  pub lent : AfterArgs r stamp c → lentOf s ≡ afterCommand (lentOf r) c v stamp (ledgerOf g)
+pub record Changed (r : Record) (stamp : ℕ) (w : Whose) (c : rules.Command) (v : Move) (g : Ledgers) (s : Record) : Type 0 where
+  pub is : s ≡ recordAfter r w c v stamp g
+  pub lent : ((p : ℕ) → isOf p w ≡ true → AfterArgs r p stamp c) → lentOf s ≡ afterCommand (lentOf r) w c v stamp (ledgerIn g)

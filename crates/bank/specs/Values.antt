@@ -3,8 +3,9 @@ use Prim.Native.Nat.{ℕ}
 use mathlib.Core.Bool.{Bool, false, cond, _&&_}
 use mathlib.Core.List.{List, [], _∷_}
 use mathlib.Core.Option.{Option, none, some}
-use lib.Dec.{ltb}
+use lib.Dec.{ltb, eqb}
 use lib.ListN.{getD, take, replicate}
+use Rattle.rules.specs.Whose.{other}
 use Rattle.rules.specs.Folds.{Found}
 use Rattle.rules.specs.Delays.{
   Ask,
@@ -27,6 +28,7 @@ use Rattle.rules.specs.Delays.{
   lastFall,
   lastPowerExit,
   lastSelfExit,
+  Answers,
 }
 use Rattle.rules.specs.Lent as lent
 use Rattle.card.specs.Values.{cardOf}
@@ -38,6 +40,7 @@ use Rattle.bank.specs.declared.Noted.{Noted}
 use Rattle.bank.specs.declared.Each.{Each}
 use Rattle.bank.specs.declared.NotedEach.{NotedEach}
 use Rattle.bank.specs.declared.Four.{Four}
+use Rattle.bank.specs.declared.Bus.{Bus}
 use Rattle.bank.specs.declared.Share.{Share}
 use Rattle.bank.specs.declared.Record.{Record}
 
@@ -116,8 +119,40 @@ shareOf s = record {
   ledger = ledgerOf (s .ledger);
 }
 
+-- part p's, of a record that has it; a share that is not there is fresh
+abbrev pub shareAt : Record → ℕ → Share
+shareAt r p = cond (eqb p 0) (r .first) (r .second)
+
+unfoldable pub shareIn : Record → ℕ → lent.Share
+shareIn r p = cond (ltb p 2) (shareOf (shareAt r p)) (lent.freshShare (cardOf (r .card)))
+
 unfoldable pub lentOf : Record → lent.Lent
-lentOf r = record { card = cardOf (r .card); last = lastOf (r .last); share = shareOf (r .share) }
+lentOf r = record { card = cardOf (r .card); last = lastOf (r .last); share = shareIn r }
+
+-- what a part's bus answers: the latest RD, WR, and RD or MRR. It is not asked more
+unfoldable pub heard : Bus → Ask → List (Found ℕ)
+heard x lastMRW = []
+heard x lastMRR = []
+heard x lastREFab = []
+heard x lastREFpb = []
+heard x lastREFpb-to = []
+heard x lastPRE-to = []
+heard x lastPREA-to = []
+heard x lastACT-to = []
+heard x fourthLast = []
+heard x lastRD = once (x .rd)
+heard x lastWR = noted (x .wr)
+heard x lastRDorMRR = noted (x .turn)
+heard x lastRD-to = []
+heard x lastRDA-to = []
+heard x lastWR-to = []
+heard x lastWRA-to = []
+heard x lastFall = []
+heard x lastPowerExit = []
+heard x lastSelfExit = []
+
+unfoldable pub busLook : Bus → Answers
+busLook x = lent.lookIn (λ q. heard x (q .ask))
 
 -- a fresh record
 unfoldable pub never : Once
@@ -135,6 +170,9 @@ neverNotedEach = record { seen = replicate 8 false; at = replicate 8 0; mr2 = re
 unfoldable pub neverFour : Four
 neverFour = record { count = 0; at = replicate 4 0 }
 
+unfoldable pub idleBus : Bus
+idleBus = record { rd = never; wr = neverNoted; turn = neverNoted }
+
 unfoldable pub freshShare : (mr2 : ℕ) → Share
 freshShare m = record {
   mr2 = m;
@@ -151,11 +189,7 @@ freshShare m = record {
     «power_exit» = never;
     «self_exit» = never;
   };
-  bus = record {
-    rd = never;
-    wr = neverNoted;
-    turn = neverNoted;
-  };
+  bus = idleBus;
   four = neverFour;
   banks = record {
     opened = replicate 8 false;
@@ -171,4 +205,8 @@ freshShare m = record {
 }
 
 unfoldable pub freshOf : Card → Record
-freshOf card = record { card = card; last = never; share = freshShare (card .mr2) }
+freshOf card = record { card = card; last = never; first = freshShare (card .mr2); second = freshShare (card .mr2) }
+
+-- the other part's bus, as part p sees it; nothing was heard of a part that is not there
+unfoldable pub theirsOf : Record → ℕ → Bus
+theirsOf r p = cond (r .card .paired) (shareAt r (other p) .bus) idleBus

@@ -1,28 +1,21 @@
 // The end offered to a record.
-ghost use Rattle.rules.specs.Lent as lent;
-ghost use Rattle.ledger.specs.Values.{Left};
-ghost use Rattle.bank.specs.Values.{lentOf};
+ghost use Rattle.bank.specs.Both.{ClosedAs};
+use crate::Paid;
 use crate::Record;
+use crate::both;
 use crate::sound;
-use ledger::After;
 use ledger::Answer;
 
-// Refused in this order: 13, 5, 11. The ledger that comes back stands at E, or on a refusal where it stood.
-pub fn close(rec: Record, end: u32) -> After
-    ensures { λ r. ⌜ Left (lent.closeRefusal (lentOf rec) end) (lentOf rec .share .ledger) (lent.movedOn (lentOf rec .card) (lentOf rec .share .ledger) end) r ⌝ }
+// Refused in this order: 13, 5, 11. The ledgers that come back stand at E.
+pub fn close(rec: Record, end: u32) -> Paid
+    ensures { λ r. ⌜ ClosedAs rec end r ⌝ }
 {
-    let stood = rec.share.ledger;
+    let stood = both::ledgers_of(rec);
     if !sound::good(rec) {
-        return After {
-            ledger: stood,
-            answer: Answer::BadRecord,
-        };
+        return both::paid(stood, Answer::BadRecord);
     }
     if rec.last.seen & (end < rec.last.at) {
-        return After {
-            ledger: stood,
-            answer: Answer::Earlier,
-        };
+        return both::paid(stood, Answer::Earlier);
     }
-    ledger::moved(stood, rec.card, end)
+    both::moved(stood, rec.card, end)
 }

@@ -1,6 +1,6 @@
 // The record before the first entry.
 ghost use mathlib.Core.Path.{_≡_};
-ghost use Rattle.bank.specs.Values.{freshShare, freshOf};
+ghost use Rattle.bank.specs.Values.{idleBus, freshShare, freshOf};
 use crate::Banks;
 use crate::Bus;
 use crate::Each;
@@ -40,6 +40,17 @@ const NEVER_FOUR: Four = Four {
     at: [0; 4],
 };
 
+// No entry used it.
+pub fn idle_bus() -> Bus
+    ensures { λ r. ⌜ r ≡ idleBus ⌝ }
+{
+    Bus {
+        rd: NEVER,
+        wr: NEVER_NOTED,
+        turn: NEVER_NOTED,
+    }
+}
+
 fn fresh_share(mr2: u8) -> Share
     ensures { λ r. ⌜ r ≡ freshShare mr2 ⌝ }
 {
@@ -58,11 +69,7 @@ fn fresh_share(mr2: u8) -> Share
             power_exit: NEVER,
             self_exit: NEVER,
         },
-        bus: Bus {
-            rd: NEVER,
-            wr: NEVER_NOTED,
-            turn: NEVER_NOTED,
-        },
+        bus: idle_bus(),
         four: NEVER_FOUR,
         banks: Banks {
             opened: [false; 8],
@@ -90,6 +97,7 @@ pub fn fresh_record(card: Card) -> Record
     Record {
         card: card,
         last: NEVER,
-        share: fresh_share(card.mr2),
+        first: fresh_share(card.mr2),
+        second: fresh_share(card.mr2),
     }
 }

@@ -1,16 +1,26 @@
 // A record of each bank, moved on by one entry at a time.
+mod both;
 mod ending;
 mod fresh;
+mod parts;
 mod sound;
 mod taking;
 
+pub use both::entered;
+pub use both::ledgers_of;
 use card::Card;
 pub use ending::close;
 pub use fresh::fresh_record;
+pub use fresh::idle_bus;
+use ledger::Answer;
 use ledger::Ledger;
+pub use parts::own;
+pub use parts::theirs;
 pub use sound::good;
 pub use taking::after;
+pub use taking::once_at;
 pub use taking::pushed;
+pub use taking::share_after;
 
 // The stamp of an entry. That there is no such entry yet is a state of its own, since a stamp uses all 32 bits.
 pub struct Once {
@@ -78,7 +88,7 @@ pub struct Moves {
     pub self_exit: Once,
 }
 
-// What is kept of the part; its level is the ledger's.
+// What is kept of a part; its level is the ledger's.
 pub struct Share {
     pub mr2: u8,
     pub counter: u8,
@@ -90,9 +100,22 @@ pub struct Share {
     pub ledger: Ledger,
 }
 
-// `last` is the last entry's stamp.
+// `last` is the last entry's stamp, of whichever part. Where the card has no tag 25 there is one part, and `second` is not looked at.
 pub struct Record {
     pub card: Card,
     pub last: Once,
-    pub share: Share,
+    pub first: Share,
+    pub second: Share,
+}
+
+// Of each part.
+pub struct Ledgers {
+    pub first: Ledger,
+    pub second: Ledger,
+}
+
+// What the account answers, and the ledgers then: as they stood, where it is refused.
+pub struct Paid {
+    pub ledgers: Ledgers,
+    pub answer: Answer,
 }

@@ -183,8 +183,15 @@ fn share_good(card: Card, last: Once, x: Share) -> bool
         & (x.counter <= 7)
 }
 
+// Of every part that there is.
 pub fn good(rec: Record) -> bool
     ensures { λ r. ⌜ r ≡ lent.lentGood (lentOf rec) ⌝ }
 {
-    card::in_range(rec.card) & share_good(rec.card, rec.last, rec.share)
+    if !(card::in_range(rec.card) & share_good(rec.card, rec.last, rec.first)) {
+        return false;
+    }
+    if !rec.card.paired {
+        return true;
+    }
+    share_good(rec.card, rec.last, rec.second)
 }

@@ -3,13 +3,14 @@ ghost use mathlib.Core.Path.{_≡_};
 ghost use lib.ListN.{set};
 ghost use Rattle.rules.specs.Levels.{rises};
 ghost use Rattle.rules.specs.Past.{registerAfter};
-ghost use Rattle.pins.specs.Values.{commandOf, levelOf, movedOf};
-ghost use Rattle.bank.specs.After.{Changed, onceAt, notedAt, putEach, putNoted, shifted, pushedOn, fourAfter, latestAfter, movesAfter, busAfter, openedAfter, readOn, writtenOn, stampedAfter, banksAfter, shareAfter};
+ghost use Rattle.pins.specs.Values.{commandOf, levelOf, movedOf, whoseOf};
+ghost use Rattle.bank.specs.After.{Changed, onceAt, notedAt, putEach, putNoted, shifted, pushedOn, fourAfter, latestAfter, movesAfter, busAfter, openedAfter, readOn, writtenOn, stampedAfter, banksAfter, shareAfter, withLedger, ShareChanged};
 use crate::Banks;
 use crate::Bus;
 use crate::Each;
 use crate::Four;
 use crate::Latest;
+use crate::Ledgers;
 use crate::Moves;
 use crate::Noted;
 use crate::NotedEach;
@@ -20,8 +21,9 @@ use ledger::Ledger;
 use pins::Command;
 use pins::Level;
 use pins::Move;
+use pins::Whose;
 
-fn once_at(t: u32) -> Once
+pub fn once_at(t: u32) -> Once
     ensures { λ r. ⌜ r ≡ onceAt t ⌝ }
 {
     Once { seen: true, at: t }
@@ -299,7 +301,7 @@ fn banks_after(x: Banks, command: Command, counter: u8, t: u32, mr2: u8) -> Bank
     next
 }
 
-fn share_after(x: Share, stamp: u32, command: Command, moved: Move, ledger: Ledger) -> Share
+pub fn share_after(x: Share, stamp: u32, command: Command, moved: Move, ledger: Ledger) -> Share
     ensures { λ r. ⌜ r ≡ shareAfter x (commandOf command) (movedOf moved) stamp ledger ⌝ }
 {
     let mr2 = x.mr2;
@@ -321,15 +323,51 @@ fn share_after(x: Share, stamp: u32, command: Command, moved: Move, ledger: Ledg
     }
 }
 
-// The record after an entry that was taken, recorded as the command and with this move of clock-enable, with the ledger then.
-pub fn after(rec: Record, stamp: u32, command: Command, moved: Move, ledger: Ledger) -> Record
-    ensures { λ r. ⌜ Changed rec stamp (commandOf command) (movedOf moved) ledger r ⌝ }
+fn with_ledger(x: Share, ledger: Ledger) -> Share
+    ensures { λ r. ⌜ r ≡ withLedger x ledger ⌝ }
+{
+    let mut next = x;
+    next.ledger = ledger;
+    next
+}
+
+// Of a part whose own entry it is, or is not.
+fn share_taken(
+    own: bool,
+    x: Share,
+    stamp: u32,
+    command: Command,
+    moved: Move,
+    ledger: Ledger,
+) -> Share
+    ensures { λ r. ⌜ ShareChanged own x stamp (commandOf command) (movedOf moved) ledger r ⌝ }
+{
+    if own {
+        return share_after(x, stamp, command, moved, ledger);
+    }
+    with_ledger(x, ledger)
+}
+
+// The record after an entry that was taken, of this part, recorded as the command and with this move of clock-enable, with the ledgers then.
+pub fn after(
+    rec: Record,
+    stamp: u32,
+    whose: Whose,
+    command: Command,
+    moved: Move,
+    ledgers: Ledgers,
+) -> Record
+    ensures { λ r. ⌜ Changed rec stamp (whoseOf whose) (commandOf command) (movedOf moved) ledgers r ⌝ }
 {
     let card = rec.card;
-    let share = rec.share;
+    let first = rec.first;
+    let second = rec.second;
+    let of_first = pins::is_first(whose);
+    let of_second = pins::is_second(whose);
     Record {
         card: card,
         last: once_at(stamp),
-        share: share_after(share, stamp, command, moved, ledger),
+        first: share_taken(of_first, first, stamp, command, moved, ledgers.first),
+        second: share_taken(of_second, second, stamp, command, moved, ledgers.second),
     }
 }

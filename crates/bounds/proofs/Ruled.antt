@@ -2,7 +2,7 @@
 use Prim.Native.Nat.{ℕ, _+_, _-_, max}
 use mathlib.Core.Path.{_≡_, refl, ap, sym, _∙_}
 use mathlib.Core.Bool.{Bool, not, _||_}
-use mathlib.Core.List.{List, [], _∷_, map}
+use mathlib.Core.List.{List, [], _∷_, _++_}
 use native.Mathlib.Omega.{arith}
 use lib.ListN.{getD}
 use Rattle.rules.specs.Lists.{when}
@@ -13,33 +13,38 @@ use Rattle.rules.specs.Registers.{rlOf, wlOf}
 use Rattle.rules.specs.Past.{bankAt}
 use Rattle.rules.specs.Folds.{permittedBy, bound}
 use Rattle.rules.specs.Folds as folds
-use Rattle.rules.specs.Delays.{Lookup, idleUse, precharged, without, from, lagging, rule, delayRules}
+use Rattle.rules.specs.Delays.{Answers, lookBoth, lastRD, lastWR, lastRDorMRR, lastFall, lastPowerExit, lastSelfExit, idleUse, precharged, without, from, lagging, across, rule, delayRules}
 use Rattle.rules.specs.Lent.{lookIn}
 use Rattle.card.specs.Values.{clocksOf}
 use Rattle.card.specs.declared.Delays.{Delays}
 use Rattle.pins.specs.Values.{commandOf}
 use Rattle.pins.specs.declared.Command.{Command}
-use Rattle.bank.specs.Values.{shareOf}
+use Rattle.bank.specs.Values.{shareOf, busLook, idleBus, freshShare}
+use Rattle.bank.specs.declared.Bus.{Bus}
 use Rattle.bank.specs.declared.Share.{Share}
-use Rattle.bounds.specs.Parts.{boundsOf, ruleAt, placeOf, boundOf, askOf, askedFor, delayIn, sourcesOf, brokenFrom, greatestOf}
+use Rattle.bounds.specs.Values.{lookWith}
+use Rattle.bounds.specs.Parts.{boundsOf, ruleAt, placeOf, boundOf, acrossOf, askOf, askedFor, foundAs, delayIn, sourcesOf, brokenFrom, greatestOf}
 use Rattle.bounds.specs.declared.answers.Ask.{Ask}
 use Rattle.bounds.specs.declared.answers.Ask.the-variants.{Mrw, Mrr, Refab, Refpb, RefpbTo, PreTo, PreaTo, ActTo, FourthLast, Rd, Wr, RdOrMrr, RdTo, RdaTo, WrTo, WraTo, Fall, PowerExit, SelfExit}
+use Rattle.bounds.specs.declared.answers.Found.{Found}
 use Rattle.bounds.specs.declared.delays.Lag.{Lag}
 use Rattle.bounds.specs.declared.delays.Lag.the-variants.{Plain, Written, Turned}
 use Rattle.bounds.proofs.Spanned.{joined}
+use Rattle.bounds.proofs.Sourced.{own-asked, far, far-asked, across-both, rd-heard, wr-heard, turn-heard}
 
-module _ (s : Share) (d : Delays) (c : Command) where
+-- ---- by whatever bus of the other part and whatever move
+module _ (s : Share) (d : Delays) (c : Command) (x : Bus) (v : Move) where
   abbrev k : rules.Command
   k = commandOf c
 
   abbrev n : ℕ
   n = s .counter
 
-  abbrev look : Lookup
+  abbrev look : Answers
   look = lookIn (shareOf s .history)
 
   abbrev asked : List ℕ → Ask → Lag → ℕ → ℕ
-  asked bs a g x = permittedBy look (sourcesOf bs a g x)
+  asked bs a g t = permittedBy look (sourcesOf bs a g t)
 
   abbrev own : Bool → List ℕ
   own b = when b (bankAt k n ∷ [])
@@ -47,113 +52,198 @@ module _ (s : Share) (d : Delays) (c : Command) where
   abbrev others : Bool → List ℕ
   others b = when b (without (bankAt k n) banks)
 
-  -- rule k's bound; that of a rule that does not ask about moves
-  abbrev with : Move → ℕ → ℕ
-  with v k = boundOf s d c v k
-
+  -- rule r's bound
   abbrev by : ℕ → ℕ
-  by k = with stays k
+  by r = getD (boundsOf s x d c v) (placeOf r) 0
+
+  -- a fixed delay, and two or three together
+  one : (a : Ask) (t : ℕ) (bs : List ℕ) → permittedBy (lookWith s x) (from bs t (askOf a)) ≡ asked bs a Plain t
+  unfolding lookWith from askedFor delayIn
+  one a t bs = own-asked look (busLook x) a Plain t (λ m. t) (λ m. refl) bs
+
+  two : (a b : Ask) (t u : ℕ) (bs cs : List ℕ)
+      → permittedBy (lookWith s x) (from bs t (askOf a) ++ from cs u (askOf b)) ≡ max (asked bs a Plain t) (asked cs b Plain u)
+  two a b t u bs cs = joined (lookWith s x) (from bs t (askOf a)) (from cs u (askOf b)) ∙ rw (one a t bs, one b u cs)
+
+  -- one by RL and WL
+  lag : (a : Ask) (g : Lag) (t : ℕ) (e : ℕ → ℕ → ℕ) (bs : List ℕ) → ((m : ℕ) → e (rlOf m) (wlOf m) ≡ delayIn g t m)
+      → permittedBy (lookWith s x) (lagging bs e (askOf a)) ≡ asked bs a g t
+  unfolding lookWith lagging askedFor
+  lag a g t e bs h = own-asked look (busLook x) a g t (λ m. e (rlOf m) (wlOf m)) h bs
 
   pub all-banks-are : by 1 ∷ by 2 ∷ by 3 ∷ [] ≡
       asked (own (not (is NOP k))) Mrw Plain (d .tmrw) ∷ asked (own (not (is NOP k))) Mrr Plain (d .tmrr) ∷ asked (own (not (is NOP k))) Refab Plain (d .trfcab) ∷ []
-  unfolding boundOf placeOf boundsOf delayRules rule bound from sourcesOf askedFor askOf delayIn clocksOf
-  all-banks-are = refl
+  unfolding placeOf boundsOf delayRules rule bound askOf clocksOf
+  all-banks-are = λ i. one Mrw (d .tmrw) (own (not (is NOP k))) i ∷ one Mrr (d .tmrr) (own (not (is NOP k))) i ∷ one Refab (d .trfcab) (own (not (is NOP k))) i ∷ []
 
   pub after-refpb-is : by 4 ≡
       max (asked (own (is REFPB k || is REFAB k || is MRW k || is PREA k)) Refpb Plain (d .trfcpb)) (asked (own (is ACT k || is PRE k)) RefpbTo Plain (d .trfcpb))
-  unfolding boundOf placeOf boundsOf delayRules rule bound from sourcesOf askedFor askOf delayIn clocksOf
-  after-refpb-is = joined look _ _
+  unfolding placeOf boundsOf delayRules rule bound askOf clocksOf
+  after-refpb-is = two Refpb RefpbTo (d .trfcpb) (d .trfcpb) (own (is REFPB k || is REFAB k || is MRW k || is PREA k)) (own (is ACT k || is PRE k))
 
   pub after-precharge-are : by 5 ∷ by 6 ∷ [] ≡
       asked (idleUse k n) PreTo Plain (d .trppb) ∷ asked (idleUse k n) PreaTo Plain (d .trpab) ∷ []
-  unfolding boundOf placeOf boundsOf delayRules rule bound from sourcesOf askedFor askOf delayIn clocksOf
-  after-precharge-are = refl
+  unfolding placeOf boundsOf delayRules rule bound askOf clocksOf
+  after-precharge-are = λ i. one PreTo (d .trppb) (idleUse k n) i ∷ one PreaTo (d .trpab) (idleUse k n) i ∷ []
 
   pub after-act-are : by 7 ∷ by 8 ∷ by 9 ∷ [] ≡
       asked (own (is RD k || is WR k)) ActTo Plain (d .trcd) ∷ asked (precharged k) ActTo Plain (d .tras) ∷ asked (idleUse k n) ActTo Plain (d .trc) ∷ []
-  unfolding boundOf placeOf boundsOf delayRules rule bound from sourcesOf askedFor askOf delayIn clocksOf
-  after-act-are = refl
+  unfolding placeOf boundsOf delayRules rule bound askOf clocksOf
+  after-act-are = λ i. one ActTo (d .trcd) (own (is RD k || is WR k)) i ∷ one ActTo (d .tras) (precharged k) i ∷ one ActTo (d .trc) (idleUse k n) i ∷ []
 
   pub other-banks-is : by 10 ≡
       max (asked (others (is ACT k || is REFPB k)) ActTo Plain (d .trrd)) (asked (others (is ACT k)) RefpbTo Plain (d .trrd))
-  unfolding boundOf placeOf boundsOf delayRules rule bound from sourcesOf askedFor askOf delayIn clocksOf
-  other-banks-is = joined look _ _
+  unfolding placeOf boundsOf delayRules rule bound askOf clocksOf
+  other-banks-is = two ActTo RefpbTo (d .trrd) (d .trrd) (others (is ACT k || is REFPB k)) (others (is ACT k))
 
   pub four-before-is : by 11 ≡ asked (own (is ACT k || is REFPB k)) FourthLast Plain (d .tfaw)
-  unfolding boundOf placeOf boundsOf delayRules rule bound from sourcesOf askedFor askOf delayIn clocksOf
-  four-before-is = refl
+  unfolding placeOf boundsOf delayRules rule bound askOf clocksOf
+  four-before-is = one FourthLast (d .tfaw) (own (is ACT k || is REFPB k))
 
   pub bursts-is : by 12 ≡ max (asked (own (is RD k || is MRR k)) Rd Plain 4) (asked (own (is WR k)) Wr Plain 4)
-  unfolding boundOf placeOf boundsOf delayRules rule bound from sourcesOf askedFor askOf delayIn clocksOf
-  bursts-is = joined look _ _
+  unfolding placeOf boundsOf delayRules rule bound askOf clocksOf
+  bursts-is = two Rd Wr 4 4 (own (is RD k || is MRR k)) (own (is WR k))
+
+  -- the sums of 13 and 14 as the code makes them
+  up : (m : ℕ) → rlOf m + d .tdqsck + 5 - wlOf m ≡ delayIn Turned (d .tdqsck + 5) m
+  unfolding delayIn
+  up m = omega arith
+
+  down : (m : ℕ) → wlOf m + 5 + d .twtr ≡ delayIn Written (5 + d .twtr) m
+  unfolding delayIn
+  down m = omega arith
 
   pub turns-are : by 13 ∷ by 14 ∷ [] ≡
       asked (own (is WR k)) RdOrMrr Turned (d .tdqsck + 5) ∷ asked (own (is RD k || is MRR k)) Wr Written (5 + d .twtr) ∷ []
-  unfolding boundOf placeOf boundsOf delayRules rule bound lagging sourcesOf askedFor askOf delayIn clocksOf
-  turns-are =
-      let up : (x y : ℕ) → x + d .tdqsck + 5 - y ≡ x + (d .tdqsck + 5) - y = λ x y. omega arith in
-      let down : (y : ℕ) → y + 5 + d .twtr ≡ y + (5 + d .twtr) = λ y. omega arith in
-      λ i.
-      permittedBy look (map (λ b. record { ask = askedFor RdOrMrr b; delay = λ m. up (rlOf m) (wlOf m) i }) (own (is WR k))) ∷
-      permittedBy look (map (λ b. record { ask = askedFor Wr b; delay = λ m. down (wlOf m) i }) (own (is RD k || is MRR k))) ∷ []
+  unfolding placeOf boundsOf delayRules rule bound askOf clocksOf
+  turns-are = λ i.
+      lag RdOrMrr Turned (d .tdqsck + 5) (λ rl wl. rl + d .tdqsck + 5 - wl) (own (is WR k)) up i ∷
+      lag Wr Written (5 + d .twtr) (λ rl wl. wl + 5 + d .twtr) (own (is RD k || is MRR k)) down i ∷ []
 
   pub after-rd-are : by 15 ∷ by 16 ∷ [] ≡
       asked (precharged k) RdTo Plain (max 4 (d .trtp)) ∷ asked (idleUse k n) RdaTo Plain (max 4 (d .trtp) + d .trppb) ∷ []
-  unfolding boundOf placeOf boundsOf delayRules rule bound from sourcesOf askedFor askOf delayIn clocksOf
-  after-rd-are = refl
+  unfolding placeOf boundsOf delayRules rule bound askOf clocksOf
+  after-rd-are = λ i. one RdTo (max 4 (d .trtp)) (precharged k) i ∷ one RdaTo (max 4 (d .trtp) + d .trppb) (idleUse k n) i ∷ []
 
   pub after-wr-are : by 17 ∷ by 18 ∷ [] ≡
       asked (precharged k) WrTo Written (5 + d .twr) ∷ asked (idleUse k n) WraTo Written (5 + d .twr + d .trppb) ∷ []
-  unfolding boundOf placeOf boundsOf delayRules rule bound lagging sourcesOf askedFor askOf delayIn clocksOf
+  unfolding placeOf boundsOf delayRules rule bound askOf clocksOf
   after-wr-are =
-      let one : (y : ℕ) → y + 5 + d .twr ≡ y + (5 + d .twr) = λ y. omega arith in
-      let two : (y : ℕ) → y + 5 + d .twr + d .trppb ≡ y + (5 + d .twr + d .trppb) = λ y. omega arith in
+      let near : (m : ℕ) → wlOf m + 5 + d .twr ≡ delayIn Written (5 + d .twr) m = λ m. unfold delayIn in omega arith in
+      let late : (m : ℕ) → wlOf m + 5 + d .twr + d .trppb ≡ delayIn Written (5 + d .twr + d .trppb) m = λ m. unfold delayIn in omega arith in
       λ i.
-      permittedBy look (map (λ b. record { ask = askedFor WrTo b; delay = λ m. one (wlOf m) i }) (precharged k)) ∷
-      permittedBy look (map (λ b. record { ask = askedFor WraTo b; delay = λ m. two (wlOf m) i }) (idleUse k n)) ∷ []
+      lag WrTo Written (5 + d .twr) (λ rl wl. wl + 5 + d .twr) (precharged k) near i ∷
+      lag WraTo Written (5 + d .twr + d .trppb) (λ rl wl. wl + 5 + d .twr + d .trppb) (idleUse k n) late i ∷ []
 
-  pub between-moves-is : (v : Move) → with v 21 ≡
+  pub between-moves-is : by 21 ≡
       max (asked (own (isRise v)) Fall Plain (d .tcke)) (max (asked (own (isFall v)) PowerExit Plain (d .tcke)) (asked (own (isFall v)) SelfExit Plain (d .tcke)))
-  unfolding boundOf placeOf boundsOf delayRules rule bound from sourcesOf askedFor askOf delayIn clocksOf
-  between-moves-is v = joined look _ _ ∙ ap (max _) (joined look _ _)
+  unfolding placeOf boundsOf delayRules rule bound askOf clocksOf
+  between-moves-is =
+      joined (lookWith s x) (from (own (isRise v)) (d .tcke) lastFall) (from (own (isFall v)) (d .tcke) lastPowerExit ++ from (own (isFall v)) (d .tcke) lastSelfExit)
+      ∙ rw (one Fall (d .tcke) (own (isRise v)), two PowerExit SelfExit (d .tcke) (d .tcke) (own (isFall v)) (own (isFall v)))
 
   pub after-exit-are : by 22 ∷ by 24 ∷ [] ≡
       asked (own (not (is NOP k))) PowerExit Plain (d .txp) ∷ asked (own (not (is NOP k))) SelfExit Plain (d .txsr) ∷ []
-  unfolding boundOf placeOf boundsOf delayRules rule bound from sourcesOf askedFor askOf delayIn clocksOf
-  after-exit-are = refl
+  unfolding placeOf boundsOf delayRules rule bound askOf clocksOf
+  after-exit-are = λ i. one PowerExit (d .txp) (own (not (is NOP k))) i ∷ one SelfExit (d .txsr) (own (not (is NOP k))) i ∷ []
 
-  pub in-self-refresh-is : (v : Move) → with v 23 ≡ asked (own (risesFrom selfRefresh v)) Fall Plain (d .tckesr)
-  unfolding boundOf placeOf boundsOf delayRules rule bound from sourcesOf askedFor askOf delayIn clocksOf
-  in-self-refresh-is v = refl
+  pub in-self-refresh-is : by 23 ≡ asked (own (risesFrom selfRefresh v)) Fall Plain (d .tckesr)
+  unfolding placeOf boundsOf delayRules rule bound askOf clocksOf
+  in-self-refresh-is = one Fall (d .tckesr) (own (risesFrom selfRefresh v))
 
-  -- the table by number
-  pub by-number : (v : Move) → boundsOf s d c v ≡
-      by 1 ∷ by 2 ∷ by 3 ∷ by 4 ∷ by 5 ∷ by 6 ∷ by 7 ∷ by 8 ∷ by 9 ∷ by 10 ∷ by 11 ∷ by 12 ∷ by 13 ∷ by 14 ∷ by 15 ∷ by 16 ∷ by 17 ∷ by 18 ∷
-      with v 21 ∷ by 22 ∷ with v 23 ∷ by 24 ∷ []
-  unfolding boundOf placeOf boundsOf delayRules
-  by-number v = refl
+  -- those that ask the other part
+  abbrev rd : Found
+  rd = foundAs (x .rd .seen) (x .rd .at) 0
+
+  abbrev wr : Found
+  wr = foundAs (x .wr .seen) (x .wr .at) (x .wr .mr2)
+
+  abbrev turn : Found
+  turn = foundAs (x .turn .seen) (x .turn .at) (x .turn .mr2)
+
+  pub across-are : by 25 ∷ by 26 ∷ by 27 ∷ [] ≡
+      max (far (is RD k || is MRR k) rd Plain 4 (d .gap)) (far (is WR k) wr Plain 4 (d .gap)) ∷
+      far (is WR k) turn Turned (d .tdqsck + 5) (d .gap) ∷ far (is RD k || is MRR k) wr Written (5 + d .twtr) (d .gap) ∷ []
+  unfolding placeOf boundsOf delayRules rule bound clocksOf lookWith from lagging
+  across-are =
+      let b = bankAt k n in
+      let other = busLook x in
+      let first : permittedBy (lookBoth look other) (across (d .gap) (from (own (is RD k || is MRR k)) 4 lastRD ++ from (own (is WR k)) 4 lastWR))
+      ≡ max (far (is RD k || is MRR k) rd Plain 4 (d .gap)) (far (is WR k) wr Plain 4 (d .gap)) =
+      rw (
+        across-both (d .gap) (from (own (is RD k || is MRR k)) 4 lastRD) (from (own (is WR k)) 4 lastWR),
+        joined (lookBoth look other) (across (d .gap) (from (own (is RD k || is MRR k)) 4 lastRD)) (across (d .gap) (from (own (is WR k)) 4 lastWR)),
+        far-asked look other (is RD k || is MRR k) b rd lastRD Plain 4 (d .gap) (λ m. 4) (λ m. unfold delayIn in refl) (rd-heard x b),
+        far-asked look other (is WR k) b wr lastWR Plain 4 (d .gap) (λ m. 4) (λ m. unfold delayIn in refl) (wr-heard x b),
+      ) in
+      λ i.
+      first i ∷
+      far-asked look other (is WR k) b turn lastRDorMRR Turned (d .tdqsck + 5) (d .gap) (λ m. rlOf m + d .tdqsck + 5 - wlOf m) up (turn-heard x b) i ∷
+      far-asked look other (is RD k || is MRR k) b wr lastWR Written (5 + d .twtr) (d .gap) (λ m. wlOf m + 5 + d .twtr) down (wr-heard x b) i ∷ []
+
+  pub broken-is : (t : ℕ) → folds.firstBroken (lookWith s x) (delayRules (clocksOf d) k v n) t ≡ brokenFrom 0 (boundsOf s x d c v) t
+  unfolding boundsOf delayRules rule folds.firstBroken brokenFrom ruleAt
+  broken-is t = refl
+
+  pub greatest-is : folds.greatest (lookWith s x) (delayRules (clocksOf d) k v n) ≡ greatestOf (boundsOf s x d c v)
+  unfolding boundsOf delayRules rule folds.greatest greatestOf
+  greatest-is = refl
+
+-- ---- the table whole
+module _ (s : Share) (d : Delays) (c : Command) (x : Bus) (v : Move) where
+  -- rule r's bound; that of a rule that does not ask about moves; that of one that asks the other part
+  abbrev with : ℕ → ℕ
+  with r = boundOf s d c v r
+
+  abbrev still : ℕ → ℕ
+  still r = boundOf s d c stays r
+
+  abbrev over : ℕ → ℕ
+  over r = acrossOf x d c r
+
+  -- the same bound, whatever is not asked
+  nth : (i : ℕ) {l m : List ℕ} → l ≡ m → getD l i 0 ≡ getD m i 0
+  nth i e = ap (λ l. getD l i 0) e
+
+  pub by-number : boundsOf s x d c v ≡
+      still 1 ∷ still 2 ∷ still 3 ∷ still 4 ∷ still 5 ∷ still 6 ∷ still 7 ∷ still 8 ∷ still 9 ∷ still 10 ∷ still 11 ∷ still 12 ∷ still 13 ∷ still 14 ∷
+      still 15 ∷ still 16 ∷ still 17 ∷ still 18 ∷ with 21 ∷ still 22 ∷ with 23 ∷ still 24 ∷ over 25 ∷ over 26 ∷ over 27 ∷ []
+  unfolding boundOf acrossOf placeOf boundsOf delayRules
+  by-number =
+      let a = all-banks-are s d c x v ∙ sym (all-banks-are s d c idleBus stays) in
+      let four = after-refpb-is s d c x v ∙ sym (after-refpb-is s d c idleBus stays) in
+      let p = after-precharge-are s d c x v ∙ sym (after-precharge-are s d c idleBus stays) in
+      let y = after-act-are s d c x v ∙ sym (after-act-are s d c idleBus stays) in
+      let ten = other-banks-is s d c x v ∙ sym (other-banks-is s d c idleBus stays) in
+      let eleven = four-before-is s d c x v ∙ sym (four-before-is s d c idleBus stays) in
+      let twelve = bursts-is s d c x v ∙ sym (bursts-is s d c idleBus stays) in
+      let t = turns-are s d c x v ∙ sym (turns-are s d c idleBus stays) in
+      let r = after-rd-are s d c x v ∙ sym (after-rd-are s d c idleBus stays) in
+      let w = after-wr-are s d c x v ∙ sym (after-wr-are s d c idleBus stays) in
+      let moves = between-moves-is s d c x v ∙ sym (between-moves-is s d c idleBus v) in
+      let z = after-exit-are s d c x v ∙ sym (after-exit-are s d c idleBus stays) in
+      let rest = in-self-refresh-is s d c x v ∙ sym (in-self-refresh-is s d c idleBus v) in
+      let o = across-are s d c x v ∙ sym (across-are (freshShare 0) d c x stays) in
+      λ i.
+      nth 0 a i ∷ nth 1 a i ∷ nth 2 a i ∷ four i ∷ nth 0 p i ∷ nth 1 p i ∷ nth 0 y i ∷ nth 1 y i ∷ nth 2 y i ∷ ten i ∷ eleven i ∷ twelve i ∷
+      nth 0 t i ∷ nth 1 t i ∷ nth 0 r i ∷ nth 1 r i ∷ nth 0 w i ∷ nth 1 w i ∷ moves i ∷ nth 0 z i ∷ rest i ∷ nth 1 z i ∷
+      nth 0 o i ∷ nth 1 o i ∷ nth 2 o i ∷ []
 
   -- put together from the answers of the groups
-  pub gathered : (v : Move) (a p x t y w z : List ℕ) (four ten eleven twelve moves rest : ℕ)
-      → a ≡ by 1 ∷ by 2 ∷ by 3 ∷ []
-      → p ≡ by 5 ∷ by 6 ∷ []
-      → x ≡ by 7 ∷ by 8 ∷ by 9 ∷ []
-      → t ≡ by 13 ∷ by 14 ∷ []
-      → y ≡ by 15 ∷ by 16 ∷ []
-      → w ≡ by 17 ∷ by 18 ∷ []
-      → four ≡ by 4 → ten ≡ by 10 → eleven ≡ by 11 → twelve ≡ by 12
-      → z ≡ by 22 ∷ by 24 ∷ []
-      → moves ≡ with v 21 → rest ≡ with v 23
-      → getD a 0 0 ∷ getD a 1 0 ∷ getD a 2 0 ∷ four ∷ getD p 0 0 ∷ getD p 1 0 ∷ getD x 0 0 ∷ getD x 1 0 ∷ getD x 2 0 ∷ ten ∷ eleven ∷ twelve ∷
-      getD t 0 0 ∷ getD t 1 0 ∷ getD y 0 0 ∷ getD y 1 0 ∷ getD w 0 0 ∷ getD w 1 0 ∷ moves ∷ getD z 0 0 ∷ rest ∷ getD z 1 0 ∷ []
-      ≡ boundsOf s d c v
-  gathered v a p x t y w z four ten eleven twelve moves rest ea ep ex et ey ew e4 e10 e11 e12 ez e21 e23 =
-      rw (ea, ep, ex, et, ey, ew, e4, e10, e11, e12, ez, e21, e23) (sym (by-number v))
-
-  pub broken-is : (v : Move) (t : ℕ) → folds.firstBroken look (delayRules (clocksOf d) k v n) t ≡ brokenFrom 0 (boundsOf s d c v) t
-  unfolding boundsOf delayRules rule folds.firstBroken brokenFrom ruleAt
-  broken-is v t = refl
-
-  pub greatest-is : (v : Move) → folds.greatest look (delayRules (clocksOf d) k v n) ≡ greatestOf (boundsOf s d c v)
-  unfolding boundsOf delayRules rule folds.greatest greatestOf
-  greatest-is v = refl
+  pub gathered : (a p y t r w z o : List ℕ) (four ten eleven twelve moves rest : ℕ)
+      → a ≡ still 1 ∷ still 2 ∷ still 3 ∷ []
+      → p ≡ still 5 ∷ still 6 ∷ []
+      → y ≡ still 7 ∷ still 8 ∷ still 9 ∷ []
+      → t ≡ still 13 ∷ still 14 ∷ []
+      → r ≡ still 15 ∷ still 16 ∷ []
+      → w ≡ still 17 ∷ still 18 ∷ []
+      → four ≡ still 4 → ten ≡ still 10 → eleven ≡ still 11 → twelve ≡ still 12
+      → z ≡ still 22 ∷ still 24 ∷ []
+      → moves ≡ with 21 → rest ≡ with 23
+      → o ≡ over 25 ∷ over 26 ∷ over 27 ∷ []
+      → getD a 0 0 ∷ getD a 1 0 ∷ getD a 2 0 ∷ four ∷ getD p 0 0 ∷ getD p 1 0 ∷ getD y 0 0 ∷ getD y 1 0 ∷ getD y 2 0 ∷ ten ∷ eleven ∷ twelve ∷
+      getD t 0 0 ∷ getD t 1 0 ∷ getD r 0 0 ∷ getD r 1 0 ∷ getD w 0 0 ∷ getD w 1 0 ∷ moves ∷ getD z 0 0 ∷ rest ∷ getD z 1 0 ∷
+      getD o 0 0 ∷ getD o 1 0 ∷ getD o 2 0 ∷ []
+      ≡ boundsOf s x d c v
+  gathered a p y t r w z o four ten eleven twelve moves rest ea ep ey et er ew e4 e10 e11 e12 ez e21 e23 eo =
+      rw (ea, ep, ey, et, er, ew, e4, e10, e11, e12, ez, e21, e23, eo) (sym by-number)

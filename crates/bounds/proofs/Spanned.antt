@@ -10,7 +10,7 @@ use Rattle.rules.specs.Folds as folds
 use Rattle.rules.specs.Folds.{Source, permitted, permittedBy}
 use Rattle.rules.specs.Commands.{Command, nop, mrw, mrr, refpb, refab, act, rd, wr, pre, prea, code, is, kindOf, bankOf, carries, bare}
 use Rattle.rules.specs.Past.{bankAt}
-use Rattle.rules.specs.Delays.{Question, Lookup, without}
+use Rattle.rules.specs.Delays.{Answers, without}
 use Rattle.bounds.specs.Parts.{askedFor, range, spanOf, delayIn, permittedAfter, sourcesOf}
 use Rattle.bounds.specs.declared.answers.Ask.{Ask}
 use Rattle.bounds.specs.declared.delays.Lag.{Lag}
@@ -30,17 +30,18 @@ own-bank (wr bank column ap) = refl
 own-bank (pre bank) = refl
 own-bank prea = refl
 
-same-permitted : (s : Source Question ℕ) (g : Lag) (d : ℕ) (o : Option (folds.Found ℕ)) → s .delay ≡ delayIn g d → permitted s o ≡ permittedAfter g d o
+pub same-permitted : {Q : Type 0} (s : Source Q ℕ) (g : Lag) (d : ℕ) (o : Option (folds.Found ℕ)) → ((m : ℕ) → s .delay m ≡ delayIn g d m)
+    → permitted s o ≡ permittedAfter g d o
 unfolding permitted permittedAfter
 same-permitted s g d none e = refl
-same-permitted s g d (some f) e = rw e
+same-permitted s g d (some f) e = rw (e (f .noted))
 
-pub joined : (look : Lookup) (xs ys : List (Source Question ℕ)) → permittedBy look (xs ++ ys) ≡ max (permittedBy look xs) (permittedBy look ys)
+pub joined : {Q : Type 0} (look : Q → Option (folds.Found ℕ)) (xs ys : List (Source Q ℕ)) → permittedBy look (xs ++ ys) ≡ max (permittedBy look xs) (permittedBy look ys)
 unfolding permittedBy
 joined look [] ys = omega arith
 joined look (x ∷ xs) ys = omega (arith, joined look xs ys)
 
-module _ (look : Lookup) (a : Ask) (g : Lag) (d : ℕ) where
+module _ (look : Answers) (a : Ask) (g : Lag) (d : ℕ) where
   abbrev over : List ℕ → ℕ
   over bs = permittedBy look (sourcesOf bs a g d)
 
@@ -53,7 +54,7 @@ module _ (look : Lookup) (a : Ask) (g : Lag) (d : ℕ) where
 
   first-of : (b : ℕ) (bs : List ℕ) → over (b ∷ bs) ≡ max (permittedAfter g d (look (askedFor a b))) (over bs)
   unfolding sourcesOf permittedBy
-  first-of b bs = rw (same-permitted (record { ask = askedFor a b; delay = delayIn g d }) g d (look (askedFor a b)) refl)
+  first-of b bs = rw (same-permitted (record { ask = askedFor a b; delay = delayIn g d }) g d (look (askedFor a b)) (λ m. refl))
 
   one-more : (but first n : ℕ) → left but first (suc n) ≡ max (at but first) (left but (suc first) n)
   unfolding range without

@@ -5,20 +5,21 @@ use mathlib.Core.List.{List, [], _∷_, map}
 use mathlib.Core.Option.{Option, none, some}
 use lib.Dec.{leb, ltb}
 use lib.ListN.{getD}
-use Rattle.rules.specs.Levels.{Move}
+use Rattle.rules.specs.Levels.{Move, stays}
 use Rattle.rules.specs.Registers.{rlOf, wlOf}
 use Rattle.rules.specs.Folds.{Source, bound}
 use Rattle.rules.specs.Folds as folds
 use Rattle.rules.specs.Delays as paper
 use Rattle.rules.specs.Delays.{Question, without}
-use Rattle.rules.specs.Lent.{lookIn}
 use Rattle.card.specs.Values.{clocksOf}
 use Rattle.card.specs.declared.Delays.{Delays}
 use Rattle.pins.specs.Values.{commandOf}
 use Rattle.pins.specs.declared.Command.{Command}
-use Rattle.bank.specs.Values.{entry, shareOf}
+use Rattle.bank.specs.Values.{entry, idleBus, freshShare}
 use Rattle.bank.specs.declared.Once.{Once}
+use Rattle.bank.specs.declared.Bus.{Bus}
 use Rattle.bank.specs.declared.Share.{Share}
+use Rattle.bounds.specs.Values.{lookWith}
 use Rattle.bounds.specs.declared.answers.Ask.{Ask}
 use Rattle.bounds.specs.declared.answers.Ask.the-variants.{Mrw, Mrr, Refab, Refpb, RefpbTo, PreTo, PreaTo, ActTo, FourthLast, Rd, Wr, RdOrMrr, RdTo, RdaTo, WrTo, WraTo, Fall, PowerExit, SelfExit}
 use Rattle.bounds.specs.declared.answers.Found.{Found}
@@ -28,19 +29,22 @@ use Rattle.bounds.specs.declared.delays.Lag.{Lag}
 use Rattle.bounds.specs.declared.delays.Lag.the-variants.{Plain, Written, Turned}
 
 -- the bounds of the rules, by rising number
-unfoldable pub boundsOf : Share → Delays → Command → Move → List ℕ
-boundsOf s d c v = map (bound (lookIn (shareOf s .history))) (paper.delayRules (clocksOf d) (commandOf c) v (s .counter))
+unfoldable pub boundsOf : Share → Bus → Delays → Command → Move → List ℕ
+boundsOf s x d c v = map (bound (lookWith s x)) (paper.delayRules (clocksOf d) (commandOf c) v (s .counter))
 
--- the places of the table: rules 1 to 18, then 21 to 24
+-- the places of the table: rules 1 to 18, then 21 to 27
 unfoldable pub ruleAt : (place : ℕ) → ℕ
 ruleAt i = i + cond (ltb i 18) 1 3
 
 unfoldable pub placeOf : (rule : ℕ) → ℕ
 placeOf k = k - cond (ltb k 19) 1 3
 
--- rule k's
+-- rule k's: one that asks the part alone, and one that asks the other part, whatever the own share is
 unfoldable pub boundOf : Share → Delays → Command → Move → ℕ → ℕ
-boundOf s d c v k = getD (boundsOf s d c v) (placeOf k) 0
+boundOf s d c v k = getD (boundsOf s idleBus d c v) (placeOf k) 0
+
+unfoldable pub acrossOf : Bus → Delays → Command → ℕ → ℕ
+acrossOf x d c k = getD (boundsOf (freshShare 0) x d c stays) (placeOf k) 0
 
 -- the first of these, which stand from place i on
 unfoldable pub brokenFrom : (i : ℕ) → List ℕ → (stamp : ℕ) → Option (ℕ × ℕ)

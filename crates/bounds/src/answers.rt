@@ -43,29 +43,20 @@ pub struct Found {
     pub mr2: u8,
 }
 
-// A bank above 7 has no entry.
-fn stamp_at(seen: [bool; 8], at: [u32; 8], bank: usize) -> Once
-    ensures { λ r. ⌜ r ≡ onceAs (getD seen bank false) (getD at bank 0) ⌝ }
+// A bank above 7 has no entry. The arrays are looked into where they lie: a copy of them would cost more than the look.
+fn each_at(x: Each, bank: usize) -> Once
+    ensures { λ r. ⌜ r ≡ onceAs (getD (x .seen) bank false) (getD (x .at) bank 0) ⌝ }
 {
     if 7 < bank {
         return Once { seen: false, at: 0 };
     }
     Once {
-        seen: seen[bank],
-        at: at[bank],
+        seen: x.seen[bank],
+        at: x.at[bank],
     }
 }
 
-fn mr2_at(mr2: [u8; 8], bank: usize) -> u8
-    ensures { λ r. ⌜ r ≡ getD mr2 bank 0 ⌝ }
-{
-    if 7 < bank {
-        return 0;
-    }
-    mr2[bank]
-}
-
-fn of_once(x: Once) -> Found
+pub fn of_once(x: Once) -> Found
     ensures { λ r. ⌜ r ≡ foundAs (x .seen) (x .at) 0 ⌝ }
 {
     Found {
@@ -75,7 +66,7 @@ fn of_once(x: Once) -> Found
     }
 }
 
-fn of_noted(x: Noted) -> Found
+pub fn of_noted(x: Noted) -> Found
     ensures { λ r. ⌜ r ≡ foundAs (x .seen) (x .at) (x .mr2) ⌝ }
 {
     Found {
@@ -88,22 +79,23 @@ fn of_noted(x: Noted) -> Found
 fn of_each(x: Each, bank: usize) -> Found
     ensures { λ r. ⌜ r ≡ foundAs (getD (x .seen) bank false) (getD (x .at) bank 0) 0 ⌝ }
 {
-    let seen = x.seen;
-    let at = x.at;
-    of_once(stamp_at(seen, at, bank))
+    of_once(each_at(x, bank))
 }
 
 fn of_noted_each(x: NotedEach, bank: usize) -> Found
     ensures { λ r. ⌜ r ≡ foundAs (getD (x .seen) bank false) (getD (x .at) bank 0) (getD (x .mr2) bank 0) ⌝ }
 {
-    let seen = x.seen;
-    let at = x.at;
-    let mr2 = x.mr2;
-    let once = stamp_at(seen, at, bank);
+    if 7 < bank {
+        return Found {
+            seen: false,
+            at: 0,
+            mr2: 0,
+        };
+    }
     Found {
-        seen: once.seen,
-        at: once.at,
-        mr2: mr2_at(mr2, bank),
+        seen: x.seen[bank],
+        at: x.at[bank],
+        mr2: x.mr2[bank],
     }
 }
 
@@ -121,17 +113,13 @@ fn unless_later(x: Once, other: Once) -> Found
 fn of_pre(pre: Each, prea: Once, bank: usize) -> Found
     ensures { λ r. ⌜ answerOf r ≡ getElem? (cond (outweighed (getD (pre .seen) bank false) (prea .seen) (getD (pre .at) bank 0) (prea .at)) [] (each pre bank)) 0 ⌝ }
 {
-    let seen = pre.seen;
-    let at = pre.at;
-    unless_later(stamp_at(seen, at, bank), prea)
+    unless_later(each_at(pre, bank), prea)
 }
 
 fn of_prea(pre: Each, prea: Once, bank: usize) -> Found
     ensures { λ r. ⌜ answerOf r ≡ getElem? (cond (outweighed (prea .seen) (getD (pre .seen) bank false) (prea .at) (getD (pre .at) bank 0)) [] (once prea)) 0 ⌝ }
 {
-    let seen = pre.seen;
-    let at = pre.at;
-    unless_later(prea, stamp_at(seen, at, bank))
+    unless_later(prea, each_at(pre, bank))
 }
 
 fn of_four(x: Four) -> Found

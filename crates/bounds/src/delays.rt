@@ -43,9 +43,9 @@ fn delay_by(lag: Lag, clocks: u64, mr2: u8) -> u64
     }
 }
 
-fn permits(found: Found, lag: Lag, clocks: u64) -> u64
+pub fn permits(found: Found, lag: Lag, clocks: u64) -> u64
     requires { ⌜ clocks < 2 ^ 40 ⌝ }
-    ensures { λ r. ⌜ r ≡ permittedAfter lag clocks (answerOf found) ⌝ }
+    ensures { λ r. ⌜ (r ≡ permittedAfter lag clocks (answerOf found)) × (r < 2 ^ 42) ⌝ }
 {
     if !found.seen {
         return 0;

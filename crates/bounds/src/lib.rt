@@ -1,4 +1,5 @@
-// Delay rules 1 to 18 and 21 to 24 over a record: the first cycle that each permits, the first rule broken, and the first cycle at which all hold.
+// Delay rules 1 to 18 and 21 to 27 over a part's share and the other part's bus: the first cycle that each permits, the first rule broken, and the first cycle at which all hold.
+mod across;
 mod answers;
 mod delays;
 mod folds;

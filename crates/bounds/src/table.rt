@@ -5,6 +5,7 @@ ghost use mathlib.Core.List.{[], _∷_};
 ghost use Rattle.rules.specs.Levels.{stays};
 ghost use Rattle.pins.specs.Values.{movedOf};
 ghost use Rattle.bounds.specs.Parts.{boundsOf, boundOf};
+use crate::across::across;
 use crate::answers::Ask;
 use crate::delays::Lag;
 use crate::delays::plain;
@@ -12,6 +13,7 @@ use crate::delays::since;
 use crate::delays::wide;
 use crate::moves;
 use crate::spans;
+use bank::Bus;
 use bank::Share;
 use card::Delays;
 use card::greater;
@@ -213,8 +215,8 @@ fn in_self_refresh(share: Share, d: Delays, command: Command, moved: Move) -> u6
     plain(share, Ask::Fall, leaving, d.tckesr)
 }
 
-pub fn bounds(share: Share, d: Delays, command: Command, moved: Move) -> [u64; 22]
-    ensures { λ r. ⌜ r ≡ boundsOf share d command (movedOf moved) ⌝ }
+pub fn bounds(share: Share, theirs: Bus, d: Delays, command: Command, moved: Move) -> [u64; 25]
+    ensures { λ r. ⌜ r ≡ boundsOf share theirs d command (movedOf moved) ⌝ }
 {
     let a = all_banks(share, d, command);
     let p = after_precharge(share, d, command);
@@ -229,6 +231,7 @@ pub fn bounds(share: Share, d: Delays, command: Command, moved: Move) -> [u64; 2
     let x = after_exit(share, d, command);
     let moves = between_moves(share, d, command, moved);
     let rest = in_self_refresh(share, d, command, moved);
+    let other = across(theirs, d, command);
     [
         a[0],
         a[1],
@@ -252,5 +255,8 @@ pub fn bounds(share: Share, d: Delays, command: Command, moved: Move) -> [u64; 2
         x[0],
         rest,
         x[1],
+        other[0],
+        other[1],
+        other[2],
     ]
 }

@@ -1,28 +1,30 @@
 -- The card that some fields of a file make: none make the blank card, and one more field makes what reading its value gives.
-use Prim.Native.Nat.{ℕ, _+_, _-_, _≤_, _<_}
+use Prim.Native.Nat.{ℕ, _+_, _-_, _<_}
 use mathlib.Core.Path.{_≡_, refl, ap, sym, _∙_}
 use mathlib.Core.Bool.{Bool, true, false, cond, _||_}
 use mathlib.Core.List.{List, [], _∷_, _++_}
 use mathlib.Core.Logic.{⊎-elim}
 use native.Mathlib.Omega.{arith}
-use lib.Dec.{leb, eqb, lit<}
+use lib.Dec.{eqb, lit<}
 use lib.ListN.{length, getD, set, length-set, List·getD-map}
 use lib.Seq.{getD-set-same, getD-set-other}
-use borrow.Author.Tests.{ne-eqb, eqb-true}
+use borrow.Author.Tests.{eqb-true}
 use Rattle.rules.specs.Card as paper
 use Rattle.rules.specs.Ranges.{timings, sleepTimings, within}
 use Rattle.rules.specs.Folds.{orElse, firstOf}
 use Rattle.rules.specs.Checks.{refusal, unless}
 use Rattle.rules.specs.Form as form
 use Rattle.rules.proofs.Onward.{onward, at-each}
-use Rattle.rules.proofs.Tests.{le-cases, eq-cases}
-use Rattle.card.specs.Values.{timingIn, cardOf}
-use Rattle.card.specs.Reading.{good, put, readRefusal, numberOf, unlessRefused, answer, readOf, blankCard}
+use Rattle.rules.proofs.Tests.{eq-cases}
+use Rattle.rules.proofs.Rounding.{within-both}
+use Rattle.card.specs.Values.{timing, timingIn, cardOf}
+use Rattle.card.specs.Reading.{ofCard, good, put, readRefusal, numberOf, unlessRefused, answer, readOf, blankCard}
 use Rattle.card.specs.declared.Card.{Card}
+use Rattle.card.proofs.Lengths.{is-within}
 
--- a card's four numbers, whether it sleeps, and its timings by their place
-built : (period mr2 groups trefi : ℕ) → (sleeps : Bool) → (ℕ → paper.Timing) → paper.Card
-built p m g r s c = record {
+-- a card's numbers, whether it sleeps or is paired, and its timings by their place
+built : (period mr2 groups trefi gap : ℕ) → (sleeps paired : Bool) → (ℕ → paper.Timing) → paper.Card
+built p m g r x s d c = record {
   period = p;
   mr2 = m;
   groups = g;
@@ -46,14 +48,19 @@ built p m g r s c = record {
   txp = c 15;
   tckesr = c 16;
   txsr = c 17;
+  paired = d;
+  gap = x;
 }
 
-card-built : (card : Card) → cardOf card ≡ built (card .period) (card .mr2) (card .groups) (card .trefi) (card .sleeps) (timingIn card)
+card-built : (card : Card)
+    → cardOf card ≡ built (card .period) (card .mr2) (card .groups) (card .trefi) (card .gap) (card .sleeps) (card .paired) (timingIn card)
 unfolding cardOf built
 card-built card = refl
 
 fields-built : (fs : List form.Field)
-    → form.cardOf fs ≡ built (form.numberAt 1 fs) (form.numberAt 2 fs) (form.numberAt 3 fs) (form.numberAt 4 fs) (form.has 19 fs) (λ k. form.timingAt (k + 5) fs)
+    → form.cardOf fs
+    ≡ built (form.numberAt 1 fs) (form.numberAt 2 fs) (form.numberAt 3 fs) (form.numberAt 4 fs) (form.numberAt 25 fs) (form.has 19 fs) (form.has 25 fs)
+    (λ k. form.timingAt (k + 5) fs)
 unfolding form.cardOf built
 fields-built fs = refl
 
@@ -67,10 +74,10 @@ place-is : (k : ℕ) → k < 18 → getD places k 0 ≡ k
 unfolding places onward
 place-is k h = eqb-true (getD places k 0) k (at-each (λ j. eqb (getD places j 0) j) 0 18 refl k (omega arith) (omega arith))
 
-same-built : {p q m n g h r s : ℕ} {u v : Bool} {c d : ℕ → paper.Timing}
-    → p ≡ q → m ≡ n → g ≡ h → r ≡ s → u ≡ v → ((k : ℕ) → k < 18 → c k ≡ d k) → built p m g r u c ≡ built q n h s v d
+same-built : {p q m n g h r s x y : ℕ} {u v a b : Bool} {c d : ℕ → paper.Timing}
+    → p ≡ q → m ≡ n → g ≡ h → r ≡ s → x ≡ y → u ≡ v → a ≡ b → ((k : ℕ) → k < 18 → c k ≡ d k) → built p m g r x u a c ≡ built q n h s y v b d
 unfolding built
-same-built a b e f w at = λ i. record {
+same-built a b e f x w z at = λ i. record {
   period = a i;
   mr2 = b i;
   groups = e i;
@@ -94,11 +101,13 @@ same-built a b e f w at = λ i. record {
   txp = at 15 (lit< tt) i;
   tckesr = at 16 (lit< tt) i;
   txsr = at 17 (lit< tt) i;
+  paired = z i;
+  gap = x i;
 }
 
-at-place : (p m g r : ℕ) (s : Bool) (c : ℕ → paper.Timing) (k : ℕ) → k < 18 → getD (allTimings (built p m g r s c)) k (c 0) ≡ c k
+at-place : (p m g r x : ℕ) (s d : Bool) (c : ℕ → paper.Timing) (k : ℕ) → k < 18 → getD (allTimings (built p m g r x s d c)) k (c 0) ≡ c k
 unfolding allTimings timings sleepTimings built places
-at-place p m g r s c k h = List·getD-map c places k 0 ∙ ap c (place-is k h)
+at-place p m g r x s d c k h = List·getD-map c places k 0 ∙ ap c (place-is k h)
 
 -- the card reads as what these fields say, and its columns are whole, as those of every card in the code are
 pub record Holds (card : Card) (fs : List form.Field) : Type 0 where
@@ -109,9 +118,10 @@ pub record Holds (card : Card) (fs : List form.Field) : Type 0 where
 held-timing : (card : Card) (fs : List form.Field) → Holds card fs → (k : ℕ) → k < 18 → timingIn card k ≡ form.timingAt (k + 5) fs
 unfolding cardOf form.cardOf built
 held-timing card fs h k lt =
-    sym (at-place (card .period) (card .mr2) (card .groups) (card .trefi) (card .sleeps) (timingIn card) k lt)
+    sym (at-place (card .period) (card .mr2) (card .groups) (card .trefi) (card .gap) (card .sleeps) (card .paired) (timingIn card) k lt)
     ∙ ap (λ (x : paper.Card). getD (allTimings x) k (x .trcd)) (h .reads)
-    ∙ at-place (form.numberAt 1 fs) (form.numberAt 2 fs) (form.numberAt 3 fs) (form.numberAt 4 fs) (form.has 19 fs) (λ j. form.timingAt (j + 5) fs) k lt
+    ∙ at-place (form.numberAt 1 fs) (form.numberAt 2 fs) (form.numberAt 3 fs) (form.numberAt 4 fs) (form.numberAt 25 fs) (form.has 19 fs) (form.has 25 fs)
+    (λ j. form.timingAt (j + 5) fs) k lt
 
 -- the newest field with a tag is the one that counts
 newest : {A : Type 0} (read : List ℕ → A) (k : ℕ) (f : form.Field) (fs : List form.Field) (old : A) → old ≡ read (form.valueOf k fs)
@@ -124,25 +134,26 @@ newest read k f fs old e = go (eqb (f .tag) k)
     go false = e
 
 put-timing : (card : Card) (t x : ℕ) (y : paper.Timing) (k : ℕ)
-    → k < length (card .durations) → k < length (card .floors) → timingIn (put card t x y) k ≡ cond (eqb t (k + 5)) y (timingIn card k)
+    → k < 18 → k < length (card .durations) → k < length (card .floors) → timingIn (put card t x y) k ≡ cond (eqb t (k + 5)) y (timingIn card k)
 unfolding put timingIn
-put-timing card t x y k hd hf =
-    ⊎-elim (λ (p : (t ≤ 4) × (leb t 4 ≡ true)). rw (p .1, ne-eqb t (k + 5) (omega arith)))
-    (λ (p : (4 < t) × (leb t 4 ≡ false)).
+put-timing card t x y k lt hd hf =
     ⊎-elim (λ (q : (t ≡ k + 5) × (eqb t (k + 5) ≡ true)).
     let e : t - 5 ≡ k = omega arith in
-    rw (p .1, q .1, e, getD-set-same (card .durations) k (y .duration) 0 hd, getD-set-same (card .floors) k (y .floor) 0 hf))
-    (λ (q : (t ≡ k + 5 → ⊥) × (eqb t (k + 5) ≡ false)).
-    rw (p .1, q .1, getD-set-other (card .durations) (t - 5) k (y .duration) 0 (omega arith), getD-set-other (card .floors) (t - 5) k (y .floor) 0 (omega arith)))
-    (eq-cases t (k + 5)))
-    (le-cases t 4)
-
-put-length : (t k : ℕ) (l : List ℕ) (a : ℕ) → length (cond (leb t 4) l (set l k a)) ≡ length l
-put-length t k l a = go (leb t 4)
+    rw (q .1, is-within 5 22 t (omega arith) (omega arith), e, getD-set-same (card .durations) k (y .duration) 0 hd, getD-set-same (card .floors) k (y .floor) 0 hf))
+    (λ (q : (t ≡ k + 5 → ⊥) × (eqb t (k + 5) ≡ false)). rw (q .1) (kept (q .0) (within 5 22 t) refl))
+    (eq-cases t (k + 5))
   where
-    go : (b : Bool) → length (cond b l (set l k a)) ≡ length l
-    go true = refl
-    go false = length-set l k a
+    kept : (t ≡ k + 5 → ⊥) → (b : Bool) → within 5 22 t ≡ b
+        → timing (getD (cond b (set (card .durations) (t - 5) (y .duration)) (card .durations)) k 0) (getD (cond b (set (card .floors) (t - 5) (y .floor)) (card .floors)) k 0)
+        ≡ timing (getD (card .durations) k 0) (getD (card .floors) k 0)
+    kept n true e =
+        let (low, _) = within-both 5 22 t e in
+        rw (getD-set-other (card .durations) (t - 5) k (y .duration) 0 (omega arith), getD-set-other (card .floors) (t - 5) k (y .floor) 0 (omega arith))
+    kept n false e = refl
+
+put-length : (b : Bool) (k : ℕ) (l : List ℕ) (a : ℕ) → length (cond b (set l k a) l) ≡ length l
+put-length true k l a = length-set l k a
+put-length false k l a = refl
 
 pub holds-blank : Holds blankCard []
 unfolding blankCard cardOf timingIn form.cardOf form.numberAt form.timingAt form.has form.valueOf form.timingOf form.number form.numberFrom
@@ -163,26 +174,28 @@ holds-more card fs f h =
           (newest form.number 2 f fs (card .mr2) (ap (λ (z : paper.Card). z .mr2) (h .reads)))
           (newest form.number 3 f fs (card .groups) (ap (λ (z : paper.Card). z .groups) (h .reads)))
           (newest form.number 4 f fs (card .trefi) (ap (λ (z : paper.Card). z .trefi) (h .reads)))
+          (newest form.number 25 f fs (card .gap) (ap (λ (z : paper.Card). z .gap) (h .reads)))
           (ap (λ (z : paper.Card). eqb t 19 || z .sleeps) (h .reads))
+          (ap (λ (z : paper.Card). eqb t 25 || z .paired) (h .reads))
           (λ k lt.
           let a = h .durations-length in
           let b = h .floors-length in
-          put-timing card t x y k (omega arith) (omega arith)
+          put-timing card t x y k lt (omega arith) (omega arith)
           ∙ newest form.timingOf (k + 5) f fs (timingIn card k) (held-timing card fs h k lt))
           ∙ sym (fields-built (f ∷ fs));
-      durations-length = put-length t (t - 5) (card .durations) (y .duration) ∙ h .durations-length;
-      floors-length = put-length t (t - 5) (card .floors) (y .floor) ∙ h .floors-length;
+      durations-length = put-length (within 5 22 t) (t - 5) (card .durations) (y .duration) ∙ h .durations-length;
+      floors-length = put-length (within 5 22 t) (t - 5) (card .floors) (y .floor) ∙ h .floors-length;
     }
 
 -- the test of a value's range is that of the field
 pub good-field : (card : Card) (fs : List form.Field) (f : form.Field) → Holds card fs
-    → good (card .period) (f .tag) (form.number (f .value)) (form.timingOf (f .value)) ≡ form.fieldGood fs f
-unfolding good form.fieldGood cardOf form.cardOf
-good-field card fs f h = rw (ap (λ (z : paper.Card). z .period) (h .reads))
+    → good (card .sleeps) (card .period) (f .tag) (form.number (f .value)) (form.timingOf (f .value)) ≡ form.fieldGood fs f
+unfolding good form.fieldGood form.gapGood cardOf form.cardOf
+good-field card fs f h = rw (ap (λ (z : paper.Card). z .sleeps) (h .reads), ap (λ (z : paper.Card). z .period) (h .reads))
 
 -- reading a field of a card's tag and of its length: in range or refused
 pub read-field : (card : Card) (fs : List form.Field) (f : form.Field) → Holds card fs
-    → within 1 22 (f .tag) ≡ true → form.lengthGood (f .tag) (length (f .value)) ≡ true
+    → ofCard (f .tag) ≡ true → form.lengthGood (f .tag) (length (f .value)) ≡ true
     → readOf card (f .tag) (f .value)
     ≡ cond (form.fieldGood fs f) (answer 0 (put card (f .tag) (form.number (f .value)) (form.timingOf (f .value)))) (answer 4 card)
 unfolding readOf
@@ -191,7 +204,7 @@ read-field card fs f h tag size = go (form.fieldGood fs f) (good-field card fs f
     next : Card
     next = put card (f .tag) (form.number (f .value)) (form.timingOf (f .value))
 
-    go : (b : Bool) → good (card .period) (f .tag) (form.number (f .value)) (form.timingOf (f .value)) ≡ b
+    go : (b : Bool) → good (card .sleeps) (card .period) (f .tag) (form.number (f .value)) (form.timingOf (f .value)) ≡ b
         → answer (numberOf (readRefusal card (f .tag) (f .value))) (unlessRefused (readRefusal card (f .tag) (f .value)) card next) ≡ cond b (answer 0 next) (answer 4 card)
     go true e = unfold readRefusal firstOf orElse unless numberOf unlessRefused in rw (tag, size, e)
     go false e = unfold readRefusal firstOf orElse unless refusal numberOf unlessRefused in rw (tag, size, e)

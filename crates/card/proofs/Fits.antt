@@ -57,6 +57,10 @@ module _ (card : Card) (good : cardGood (cardOf card) ≡ true) where
       let b = each 1 (lit< tt) in
       omega (arith, p, a .duration, a .floor, b .duration, b .floor, rounded-le (timingIn card 3 .duration + timingIn card 1 .duration) (card .period))
 
+  gap-fits : clipped (card .gap) ≡ card .gap
+  unfolding cardOf
+  gap-fits = omega (arith, leb-true (card .gap) 255 (good-parts (cardOf card) good .gap))
+
   pub fits : shortened (delaysOf (cardOf card)) ≡ delaysOf (cardOf card)
   unfolding shortened delaysOf cardOf
   fits = λ i. record {
@@ -79,4 +83,5 @@ module _ (card : Card) (good : cardGood (cardOf card) ≡ true) where
     txp = timing-fits 15 (lit< tt) i;
     tckesr = timing-fits 16 (lit< tt) i;
     txsr = timing-fits 17 (lit< tt) i;
+    gap = gap-fits i;
   }

@@ -1,8 +1,8 @@
--- A tag held against the two groups of the rules' table.
+-- A tag held against the three groups of the rules' table.
 use Prim.Native.Nat.{ℕ}
-use mathlib.Core.Path.{_≡_, sym}
+use mathlib.Core.Path.{_≡_, refl, sym}
 use mathlib.Core.Logic.{⊎-elim}
-use mathlib.Core.Bool.{true, false, _||_, or-false}
+use mathlib.Core.Bool.{Bool, true, false, _||_}
 use lib.Dec.{eqb}
 use borrow.Author.Tests.{eq-eqb, ne-eqb}
 use Rattle.rules.proofs.Tests.{eq-cases}
@@ -13,5 +13,11 @@ swapped a b = ⊎-elim
     (λ (p : (a ≡ b → ⊥) × (eqb a b ≡ false)). rw (p .1) (sym (ne-eqb b a (λ e. p .0 (sym e)))))
     (eq-cases a b)
 
-pub either : (t a b : ℕ) → (eqb t a || eqb t b) ≡ (eqb a t || (eqb b t || false))
-either t a b = rw (or-false (eqb b t), swapped t a, swapped t b)
+pub any-of : (t a b c : ℕ) → ((eqb t a || eqb t b) || eqb t c) ≡ (eqb a t || (eqb b t || (eqb c t || false)))
+any-of t a b c = rw (swapped t a, swapped t b, swapped t c) (grouped (eqb a t) (eqb b t) (eqb c t))
+  where
+    grouped : (x y z : Bool) → ((x || y) || z) ≡ (x || (y || (z || false)))
+    grouped true y z = refl
+    grouped false true z = refl
+    grouped false false true = refl
+    grouped false false false = refl

@@ -1,17 +1,18 @@
 -- The lengths that the code goes by are those that the rules list: a computed test each way.
 use Prim.Native.Nat.{ℕ, _≤_, _<_}
 use mathlib.Core.Path.{_≡_, refl, sym}
-use mathlib.Core.Bool.{Bool, true, false, cond, _&&_, _||_}
+use mathlib.Core.Bool.{Bool, true, false, cond, not, _&&_, _||_, or-false}
 use mathlib.Core.List.{List, [], _∷_}
 use native.Mathlib.Omega.{arith}
 use lib.Dec.{leb, ltb, eqb}
-use borrow.Author.Tests.{leb-true, le-leb, eqb-true}
+use borrow.Author.Tests.{leb-true, le-leb, eqb-true, ne-eqb}
 use Rattle.rules.specs.Lists.{all}
 use Rattle.rules.specs.Ranges.{within}
 use Rattle.rules.specs.Form.{Listed, _of_, lengths, isListed, lengthGood}
 use Rattle.rules.proofs.Onward.{onward, at-each}
 use Rattle.rules.proofs.Tests.{both-true}
-use Rattle.card.specs.Reading.{sizeOf}
+use Rattle.rules.proofs.Rounding.{within-both}
+use Rattle.card.specs.Reading.{ofCard, sizeOf}
 
 differ : {A : Type 0} → Path Bool false true → A
 differ e = let z : _≡_ {A = ℕ} 0 1 = cc in absurd (omega arith)
@@ -20,6 +21,17 @@ same : (a b : Bool) → (a ≡ true → b ≡ true) → (b ≡ true → a ≡ tr
 same true b f g = sym (f refl)
 same false true f g = g refl
 same false false f g = refl
+
+pub is-within : (a b x : ℕ) → a ≤ x → x ≤ b → within a b x ≡ true
+unfolding within
+is-within a b x low high = rw (le-leb a x low, le-leb x b high)
+
+-- a card's tag that is none of a number's is a timing's
+pub a-timing : (t : ℕ) → ofCard t ≡ true → (t ≡ 1 → ⊥) → (t ≡ 2 → ⊥) → (t ≡ 3 → ⊥) → (t ≡ 4 → ⊥) → (t ≡ 25 → ⊥) → (5 ≤ t) × (t ≤ 22)
+unfolding ofCard
+a-timing t e a b c d f =
+    let (low, high) = within-both 1 22 t (rw (ne-eqb t 25 f, or-false (within 1 22 t)) at e) in
+    (omega arith, high)
 
 -- what holds of each row holds of a tag and a length that are listed
 pub listed-has : (p : ℕ → ℕ → Bool) (xs : List Listed) (t l : ℕ)
@@ -48,12 +60,15 @@ as-listed t l h =
     rw (← eqb-true (sizeOf t) l (b .1)) (rw (b .0) at g))
     (listed-has (λ k s. ltb 0 (sizeOf k) && eqb (sizeOf k) s) lengths t l refl)
 
--- tags up to a have lengths up to b
-at-most : (a b t l : ℕ) → all (λ x. cond (leb (x .tag) a) (leb (x .size) b) true) lengths ≡ true → lengthGood t l ≡ true → t ≤ a → l ≤ b
+-- tags of which p holds have lengths up to b
+at-most : (p : ℕ → Bool) (b t l : ℕ) → all (λ x. cond (p (x .tag)) (leb (x .size) b) true) lengths ≡ true → lengthGood t l ≡ true → p t ≡ true → l ≤ b
 unfolding lengthGood
-at-most a b t l rows e h =
-    leb-true l b (rw (le-leb t a h) at (listed-has (λ k s. cond (leb k a) (leb s b) true) lengths t l rows e))
+at-most p b t l rows e h = leb-true l b (rw h at (listed-has (λ k s. cond (p k) (leb s b) true) lengths t l rows e))
 
-pub card-length : (t l : ℕ) → lengthGood t l ≡ true → (t ≤ 22 → l ≤ 5) × (t ≤ 4 → l ≤ 4)
-unfolding lengths _of_ all
-card-length t l e = (at-most 22 5 t l refl e, at-most 4 4 t l refl e)
+-- a card's value, and one that is no timing
+pub card-length : (t l : ℕ) → ofCard t ≡ true → lengthGood t l ≡ true → (l ≤ 5) × (within 5 22 t ≡ false → l ≤ 4)
+unfolding lengths _of_ all ofCard within
+card-length t l c e = (
+  at-most ofCard 5 t l refl e c,
+  λ n. at-most (λ k. ofCard k && not (within 5 22 k)) 4 t l refl e (rw (c, n)),
+)

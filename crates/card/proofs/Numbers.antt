@@ -1,15 +1,16 @@
 -- Big-endian numbers, byte by byte, and the numbers that fit their places in the card.
 use Prim.Native.Nat.{ℕ, _+_, _*_, _^_, _≤_, _<_}
 use mathlib.Core.Path.{_≡_}
-use mathlib.Core.Bool.{true}
+use mathlib.Core.Bool.{Bool, true, _&&_}
 use mathlib.Core.List.{List}
 use native.Mathlib.Nat.{zero-add}
 use native.Mathlib.Numerals.{add-one}
 use native.Mathlib.Omega.{arith}
+use lib.Dec.{leb}
 use lib.ListN.{length, getD, drop, drop-of-length-le}
 use lib.Seq.{drop-cons}
 use lib.Pow.{pow-add, pow-mono}
-use borrow.Author.Tests.{ltb-true}
+use borrow.Author.Tests.{leb-true, ltb-true}
 use Rattle.rules.specs.Registers.{mr2Good}
 use Rattle.rules.specs.Ranges.{groupsGood}
 use Rattle.rules.specs.Form.{number, numberFrom}
@@ -40,3 +41,6 @@ mr2-byte p x e = ltb-true x 256 (both-true _ _ (both-true _ _ (both-true _ _ e .
 pub groups-short : (x : ℕ) → groupsGood x ≡ true → x ≤ 16384
 unfolding groupsGood
 groups-short x e = within-both 1 16384 x e .1
+
+pub gap-byte : (b : Bool) (x : ℕ) → (leb x 255 && b) ≡ true → x ≤ 255
+gap-byte b x e = leb-true x 255 (both-true _ _ e .0)

@@ -78,6 +78,7 @@ delaysIn d = record {
   txp = d .txp;
   tckesr = d .tckesr;
   txsr = d .txsr;
+  gap = d .gap;
 }
 
 -- delays with the same numbers are one

@@ -1,11 +1,11 @@
 -- What is told of a field's value, test by test.
-use Prim.Native.Nat.{ℕ, _≤_, _<_}
+use Prim.Native.Nat.{ℕ}
 use mathlib.Core.Path.{_≡_, refl, ap, sym, _∙_}
 use mathlib.Core.Bool.{Bool, true, false, cond}
 use mathlib.Core.List.{List}
 use mathlib.Core.Logic.{⊎-elim}
 use native.Mathlib.Omega.{arith}
-use lib.Dec.{leb, eqb}
+use lib.Dec.{eqb}
 use lib.ListN.{length, take, drop}
 use lib.Seq.{take-all}
 use borrow.Author.Tests.{ne-eqb}
@@ -14,21 +14,24 @@ use Rattle.rules.specs.Ranges.{within}
 use Rattle.rules.specs.Folds.{orElse, firstOf}
 use Rattle.rules.specs.Checks.{refusal, unless}
 use Rattle.rules.specs.Form.{number, timingOf, lengthGood}
-use Rattle.rules.proofs.Tests.{le-cases, eq-cases}
+use Rattle.rules.proofs.Tests.{eq-cases}
+use Rattle.rules.proofs.Rounding.{within-both}
 use Rattle.card.specs.Values.{timing}
-use Rattle.card.specs.Reading.{good, put, readRefusal, refusalOf, numberOf, unlessRefused, ReadAs, answer, readOf, taken}
+use Rattle.card.specs.Reading.{ofCard, good, put, readRefusal, refusalOf, numberOf, unlessRefused, ReadAs, answer, readOf, taken}
 use Rattle.card.specs.declared.Card.{Card}
 use Rattle.card.specs.declared.Read.{Read}
 use Rattle.card.proofs.Lengths.{card-length}
 
--- tags 5 and on do not look at the number
-same-number : (c : Card) (t x z : ℕ) (y : Timing) → (t ≤ 4 → x ≡ z) → taken c t x y ≡ taken c t z y
-unfolding taken good put
-same-number c t x z y h =
-    ⊎-elim (λ (p : (t ≤ 4) × (leb t 4 ≡ true)). ap (λ (k : ℕ). taken c t k y) (h (p .0)))
-    (λ (p : (4 < t) × (leb t 4 ≡ false)).
-    rw (ne-eqb t 1 (omega arith), ne-eqb t 2 (omega arith), ne-eqb t 3 (omega arith), ne-eqb t 4 (omega arith)))
-    (le-cases t 4)
+-- a timing's tags do not look at the number
+same-number : (c : Card) (t x z : ℕ) (y : Timing) → (within 5 22 t ≡ false → x ≡ z) → taken c t x y ≡ taken c t z y
+same-number c t x z y h = go (within 5 22 t) refl
+  where
+    go : (b : Bool) → within 5 22 t ≡ b → taken c t x y ≡ taken c t z y
+    go true e =
+        let (low, high) = within-both 5 22 t e in
+        unfold taken good put in
+        rw (ne-eqb t 1 (omega arith), ne-eqb t 2 (omega arith), ne-eqb t 3 (omega arith), ne-eqb t 4 (omega arith), ne-eqb t 25 (omega arith))
+    go false e = ap (λ (k : ℕ). taken c t k y) (h e)
 
 number-is : (k : ℕ) → numberOf (refusalOf k) ≡ k
 unfolding refusalOf unless refusal numberOf
@@ -38,11 +41,11 @@ number-is k = ⊎-elim
     (eq-cases k 0)
 
 module _ (c : Card) (t : ℕ) (v : List ℕ) where
-  pub bad-tag : within 1 22 t ≡ false → ReadAs c t v (answer 2 c)
+  pub bad-tag : ofCard t ≡ false → ReadAs c t v (answer 2 c)
   unfolding readRefusal firstOf orElse unless refusalOf unlessRefused
   bad-tag e = record { told = rw e; card = rw e }
 
-  module _ (tag : within 1 22 t ≡ true) where
+  module _ (tag : ofCard t ≡ true) where
     pub bad-length : lengthGood t (length v) ≡ false → ReadAs c t v (answer 3 c)
     unfolding readRefusal firstOf orElse unless refusalOf unlessRefused
     bad-length e = record { told = rw (tag, e); card = rw (tag, e) }
@@ -50,16 +53,16 @@ module _ (c : Card) (t : ℕ) (v : List ℕ) where
     module _ (size : lengthGood t (length v) ≡ true) where
       whole : ReadAs c t v (taken c t (number v) (timingOf v))
       unfolding taken
-      whole = go (good (c .period) t (number v) (timingOf v)) refl
+      whole = go (good (c .sleeps) (c .period) t (number v) (timingOf v)) refl
         where
-          go : (b : Bool) → good (c .period) t (number v) (timingOf v) ≡ b → ReadAs c t v (cond b (answer 0 (put c t (number v) (timingOf v))) (answer 4 c))
+          go : (b : Bool) → good (c .sleeps) (c .period) t (number v) (timingOf v) ≡ b → ReadAs c t v (cond b (answer 0 (put c t (number v) (timingOf v))) (answer 4 c))
           go true e = unfold readRefusal firstOf orElse unless refusalOf unlessRefused in record { told = rw (tag, size, e); card = rw (tag, size, e) }
           go false e = unfold readRefusal firstOf orElse unless refusalOf unlessRefused in record { told = rw (tag, size, e); card = rw (tag, size, e) }
 
       -- read as four bytes and the rest
       pub in-parts : ReadAs c t v (taken c t (number (take 4 v)) (timing (number (take 4 v)) (number (drop 4 v))))
       unfolding timingOf
-      in-parts = rw (same-number c t (number (take 4 v)) (number v) (timingOf v) (λ h. ap number (take-all 4 v (card-length t (length v) size .1 h)))) whole
+      in-parts = rw (same-number c t (number (take 4 v)) (number v) (timingOf v) (λ h. ap number (take-all 4 v (card-length t (length v) tag size .1 h)))) whole
 
   -- the answer whole
   pub read-is : (r : Read) → ReadAs c t v r → r ≡ readOf c t v

@@ -1,7 +1,7 @@
 -- What the value of a card's field makes of a card: refusal 2 (tag), 3 (length), 4 (range), or the card with the value in it.
 use Prim.Native.Nat.{ℕ, _-_}
 use mathlib.Core.Path.{_≡_}
-use mathlib.Core.Bool.{Bool, false, cond, _||_}
+use mathlib.Core.Bool.{Bool, false, cond, not, _&&_, _||_}
 use mathlib.Core.List.{List, [], _∷_}
 use mathlib.Core.Option.{Option, none, some}
 use lib.Dec.{leb, eqb}
@@ -15,17 +15,24 @@ use Rattle.rules.specs.Form.{number, timingOf, lengthGood}
 use Rattle.card.specs.declared.Card.{Card}
 use Rattle.card.specs.declared.Read.{Read}
 
+-- a tag of the card
+unfoldable pub ofCard : (tag : ℕ) → Bool
+ofCard t = within 1 22 t || eqb t 25
+
 -- the listed length of a tag; 0 where there is no such tag
 unfoldable pub sizeOf : ℕ → ℕ
 sizeOf t =
     cond (eqb t 1 || eqb t 4 || eqb t 33) 4
-    (cond (eqb t 2) 1 (cond (eqb t 3) 2 (cond (within 5 22 t) 5 (cond (eqb t 32) 7 0))))
+    (cond (eqb t 2 || eqb t 25) 1 (cond (eqb t 3) 2 (cond (within 5 22 t) 5 (cond (eqb t 32) 7 0))))
 
--- whether a value is in range: tags 1 to 4 are the number x, tags 5 to 22 the timing y
-unfoldable pub good : (period tag x : ℕ) → paper.Timing → Bool
-good p t x y =
+-- whether a value is in range: tags 1 to 4 and 25 are the number x, tags 5 to 22 the timing y; sleeps and period are those read before
+unfoldable pub good : (sleeps : Bool) → (period tag x : ℕ) → paper.Timing → Bool
+good s p t x y =
     cond (eqb t 1) (periodGood x)
-    (cond (eqb t 2) (mr2Good p x) (cond (eqb t 3) (groupsGood x) (cond (eqb t 4) (trefiGood p x) (timingGood y))))
+    (cond (eqb t 2) (mr2Good p x)
+    (cond (eqb t 3) (groupsGood x)
+    (cond (eqb t 4) (trefiGood p x)
+    (cond (eqb t 25) (leb x 255 && not s) (timingGood y)))))
 
 -- the card with the value of this tag in it
 unfoldable pub put : Card → (tag x : ℕ) → paper.Timing → Card
@@ -34,15 +41,17 @@ put c t x y = record {
   mr2 = cond (eqb t 2) x (c .mr2);
   groups = cond (eqb t 3) x (c .groups);
   trefi = cond (eqb t 4) x (c .trefi);
-  durations = cond (leb t 4) (c .durations) (set (c .durations) (t - 5) (y .duration));
-  floors = cond (leb t 4) (c .floors) (set (c .floors) (t - 5) (y .floor));
+  durations = cond (within 5 22 t) (set (c .durations) (t - 5) (y .duration)) (c .durations);
+  floors = cond (within 5 22 t) (set (c .floors) (t - 5) (y .floor)) (c .floors);
   sleeps = eqb t 19 || c .sleeps;
+  paired = eqb t 25 || c .paired;
+  gap = cond (eqb t 25) x (c .gap);
 }
 
 -- what is refused, by document 01's numbers: the tag, the length, the range
 unfoldable pub readRefusal : Card → (tag : ℕ) → List ℕ → Option Refusal
 readRefusal c t v =
-    firstOf (unless (within 1 22 t) 2 ∷ unless (lengthGood t (length v)) 3 ∷ unless (good (c .period) t (number v) (timingOf v)) 4 ∷ [])
+    firstOf (unless (ofCard t) 2 ∷ unless (lengthGood t (length v)) 3 ∷ unless (good (c .sleeps) (c .period) t (number v) (timingOf v)) 4 ∷ [])
 
 -- the numbers that the code's one stands for; 0 is none
 unfoldable pub refusalOf : ℕ → Option Refusal
@@ -72,7 +81,17 @@ readOf c t v = answer (numberOf (readRefusal c t v)) (unlessRefused (readRefusal
 
 -- a value of its tag's length, by its numbers
 unfoldable pub taken : Card → (tag x : ℕ) → paper.Timing → Read
-taken c t x y = cond (good (c .period) t x y) (answer 0 (put c t x y)) (answer 4 c)
+taken c t x y = cond (good (c .sleeps) (c .period) t x y) (answer 0 (put c t x y)) (answer 4 c)
 
 unfoldable pub blankCard : Card
-blankCard = record { period = 0; mr2 = 0; groups = 0; trefi = 0; durations = replicate 18 0; floors = replicate 18 0; sleeps = false }
+blankCard = record {
+  period = 0;
+  mr2 = 0;
+  groups = 0;
+  trefi = 0;
+  durations = replicate 18 0;
+  floors = replicate 18 0;
+  sleeps = false;
+  paired = false;
+  gap = 0;
+}

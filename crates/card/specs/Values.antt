@@ -38,6 +38,8 @@ cardOf card = record {
   txp = timingIn card 15;
   tckesr = timingIn card 16;
   txsr = timingIn card 17;
+  paired = card .paired;
+  gap = card .gap;
 }
 
 unfoldable pub clocksOf : Delays → units.Delays
@@ -61,6 +63,7 @@ clocksOf d = record {
   txp = d .txp;
   tckesr = d .tckesr;
   txsr = d .txsr;
+  gap = d .gap;
 }
 
 -- in 32 bits: the most that they hold stands for anything beyond, which no card in range comes to (proofs/Fits)
@@ -88,4 +91,5 @@ shortened d = record {
   txp = clipped (d .txp);
   tckesr = clipped (d .tckesr);
   txsr = clipped (d .txsr);
+  gap = clipped (d .gap);
 }

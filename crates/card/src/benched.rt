@@ -1,4 +1,4 @@
-// Document 01's bench card, which has no tags 19 to 22.
+// Document 01's bench card, which has neither tags 19 to 22 nor tag 25.
 ghost use mathlib.Core.Path.{_≡_};
 ghost use Rattle.card.specs.Bench.{benchCard};
 use crate::Card;
@@ -33,5 +33,7 @@ pub fn bench() -> Card
         ],
         floors: [3, 3, 3, 3, 2, 8, 4, 4, 4, 0, 0, 0, 4, 10, 0, 0, 0, 0],
         sleeps: false,
+        paired: false,
+        gap: 0,
     }
 }

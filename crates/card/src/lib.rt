@@ -25,7 +25,8 @@ pub struct Picoseconds(pub u64);
 pub struct Clocks(pub u64);
 
 // `durations` and `floors` are the two columns of tags 5 to 22: trcd, trppb, trpab, tras, trrd, tfaw, trtp, twr, twtr, tdqsck,
-// trfcab, trfcpb, tmrr, tmrw, tcke, txp, tckesr, txsr. `sleeps`: tags 19 to 22 are there.
+// trfcab, trfcpb, tmrr, tmrw, tcke, txp, tckesr, txsr. `sleeps`: tags 19 to 22 are there. `paired`: tag 25 is there; `gap`: its clocks between
+// the two parts.
 pub struct Card {
     pub period: u32,
     pub mr2: u8,
@@ -34,6 +35,8 @@ pub struct Card {
     pub durations: [u32; 18],
     pub floors: [u8; 18],
     pub sleeps: bool,
+    pub paired: bool,
+    pub gap: u8,
 }
 
 // In clocks, in 32 bits, which hold every delay of a card in range.
@@ -57,6 +60,7 @@ pub struct Delays {
     pub txp: u32,
     pub tckesr: u32,
     pub txsr: u32,
+    pub gap: u32,
 }
 
 pub struct Latency {

@@ -21,9 +21,9 @@ fn timing_good(duration: u32, floor: u8) -> bool
     duration <= 1_000_000
 }
 
-// The value of this tag: a number, or the two numbers of a timing.
-pub fn value_good(period: u32, tag: u8, x: u32, floor: u8) -> bool
-    ensures { λ r. ⌜ r ≡ good period tag x (timing x floor) ⌝ }
+// The value of this tag: a number, or the two numbers of a timing. A gap comes in no card that sleeps.
+pub fn value_good(sleeps: bool, period: u32, tag: u8, x: u32, floor: u8) -> bool
+    ensures { λ r. ⌜ r ≡ good sleeps period tag x (timing x floor) ⌝ }
 {
     if tag == 1 {
         return within(938, 100_000, x);
@@ -39,6 +39,9 @@ pub fn value_good(period: u32, tag: u8, x: u32, floor: u8) -> bool
     }
     if tag == 4 {
         return within(period, 20_000_000, x);
+    }
+    if tag == 25 {
+        return (x <= 255) & !sleeps;
     }
     timing_good(x, floor)
 }
@@ -59,9 +62,9 @@ fn timings_good(card: Card) -> bool
 pub fn in_range(card: Card) -> bool
     ensures { λ r. ⌜ r ≡ paper.cardGood (cardOf card) ⌝ }
 {
-    value_good(card.period, 1, card.period, 0)
+    value_good(card.sleeps, card.period, 1, card.period, 0)
         & mr2_good(card.period, card.mr2)
-        & value_good(card.period, 3, card.groups as u32, 0)
-        & value_good(card.period, 4, card.trefi, 0)
-        & timings_good(card)
+        & value_good(card.sleeps, card.period, 3, card.groups as u32, 0)
+        & value_good(card.sleeps, card.period, 4, card.trefi, 0)
+        & (timings_good(card) & !(card.sleeps & card.paired))
 }

@@ -1,17 +1,24 @@
-// The order of a file's tags: the card's come in groups.
+// Which tags are the card's, and the order of a file's tags: the card's come in groups.
 ghost use mathlib.Core.Path.{_≡_};
 ghost use Rattle.rules.specs.Form as form;
+ghost use Rattle.card.specs.Reading.{ofCard};
+
+pub fn of_card(tag: u8) -> bool
+    ensures { λ r. ⌜ r ≡ ofCard tag ⌝ }
+{
+    ((1 <= tag) & (tag <= 22)) | (tag == 25)
+}
 
 fn ends_group(tag: u8) -> bool
     ensures { λ r. ⌜ r ≡ form.endsGroup form.groups tag ⌝ }
 {
-    (tag == 18) | (tag == 22)
+    (tag == 18) | (tag == 22) | (tag == 25)
 }
 
 fn begins_group(tag: u8) -> bool
     ensures { λ r. ⌜ r ≡ form.beginsGroup form.groups tag ⌝ }
 {
-    (tag == 1) | (tag == 19)
+    (tag == 1) | (tag == 19) | (tag == 25)
 }
 
 // Whether this tag may come behind the tag of the card's newest field, 0 before the first; `begun`: an entry has come.

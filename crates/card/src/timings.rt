@@ -110,6 +110,7 @@ pub fn delays_of(card: Card) -> Delays
         txp: n[15],
         tckesr: n[16],
         txsr: n[17],
+        gap: card.gap as u32,
     }
 }
 

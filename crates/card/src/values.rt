@@ -9,6 +9,7 @@ ghost use Rattle.card.specs.Reading as reading;
 use crate::Card;
 use crate::Read;
 use crate::ranges::value_good;
+use crate::tags::of_card;
 
 // The listed length of a tag; 0 where there is no such tag.
 fn listed(tag: u8) -> usize
@@ -17,7 +18,7 @@ fn listed(tag: u8) -> usize
     if (tag == 1) | (tag == 4) | (tag == 33) {
         return 4;
     }
-    if tag == 2 {
+    if (tag == 2) | (tag == 25) {
         return 1;
     }
     if tag == 3 {
@@ -59,7 +60,7 @@ fn number(bytes: &[u8]) -> u32
     x
 }
 
-// The whole value of tags 1 to 4, and the duration of a timing.
+// The whole value of tags 1 to 4 and 25, and the duration of a timing.
 fn first_four(value: &[u8]) -> u32
     ensures { λ r. ⌜ r ≡ form.number (take 4 (now (value .entry))) ⌝ }
 {
@@ -81,7 +82,7 @@ fn fifth(value: &[u8]) -> u8
 }
 
 fn put(card: Card, tag: u8, x: u32, floor: u8) -> Card
-    requires { ⌜ (1 ≤ tag) × (tag ≤ 22) × (reading.good (card .period) tag x (timing x floor) ≡ true) ⌝ }
+    requires { ⌜ (reading.ofCard tag ≡ true) × (reading.good (card .sleeps) (card .period) tag x (timing x floor) ≡ true) ⌝ }
     ensures { λ r. ⌜ r ≡ reading.put card tag x (timing x floor) ⌝ }
 {
     let mut next = card;
@@ -101,6 +102,11 @@ fn put(card: Card, tag: u8, x: u32, floor: u8) -> Card
         next.trefi = x;
         return next;
     }
+    if tag == 25 {
+        next.paired = true;
+        next.gap = x as u8;
+        return next;
+    }
     let i = (tag - 5) as usize;
     next.durations[i] = x;
     next.floors[i] = floor;
@@ -109,10 +115,10 @@ fn put(card: Card, tag: u8, x: u32, floor: u8) -> Card
 }
 
 fn taken(card: Card, tag: u8, x: u32, floor: u8) -> Read
-    requires { ⌜ (1 ≤ tag) × (tag ≤ 22) ⌝ }
+    requires { ⌜ reading.ofCard tag ≡ true ⌝ }
     ensures { λ r. ⌜ r ≡ reading.taken card tag x (timing x floor) ⌝ }
 {
-    if value_good(card.period, tag, x, floor) {
+    if value_good(card.sleeps, card.period, tag, x, floor) {
         let next = put(card, tag, x, floor);
         return Read {
             refusal: 0,
@@ -128,7 +134,7 @@ fn taken(card: Card, tag: u8, x: u32, floor: u8) -> Read
 pub fn read_value(card: Card, tag: u8, value: &[u8]) -> Read
     ensures { λ r. ⌜ reading.ReadAs card tag (now (value .entry)) r ⌝ }
 {
-    if !((1 <= tag) & (tag <= 22)) {
+    if !of_card(tag) {
         return Read {
             refusal: 2,
             card: card,
@@ -155,5 +161,7 @@ pub fn blank() -> Card
         durations: [0; 18],
         floors: [0; 18],
         sleeps: false,
+        paired: false,
+        gap: 0,
     }
 }

@@ -12,5 +12,6 @@ pub mod Hearing
 pub mod Bytes
 pub mod Wraps
 pub mod Short
+pub mod Stood
 pub mod Ranging
 pub mod Promises

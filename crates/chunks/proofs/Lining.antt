@@ -42,7 +42,7 @@ unfolding linesIf
 lines-quiet q k rec bs old e = rw e (lined-nothing old)
 
 pub lines-all : (q : Bool) (k : ℕ) (rec : Record) (bs old new : List ℕ) (r : ℕ) → q ≡ false → 10 * k ≤ length bs → 24 * k ≤ length old - 40
-    → Lined (linesAt (rec .card .sleeps) (lineCount k (length bs) (length old)) (standsIn rec) bs) old new r → Lined (linesIf q k rec bs) old new r
+    → Lined (linesAt (rec .card .sleeps) (rec .card .paired) (lineCount k (length bs) (length old)) (standsIn rec) bs) old new r → Lined (linesIf q k rec bs) old new r
 unfolding linesIf
 lines-all q k rec bs old new r e h room l =
     let all : lineCount k (length bs) (length old) ≡ k = omega arith in

@@ -10,30 +10,27 @@ use lib.ListN.{length, take, drop, length-drop}
 use lib.Seq.{length-take-le, getD-take}
 use mir.Syntax.{w64}
 use mir.Val.{Fits}
-use borrow.Author.Tests.{eq-eqb, ne-eqb, leb-true, le-leb}
-use Rattle.rules.specs.Levels.{Read, levelAfter, readPins}
-use Rattle.rules.specs.Entries.{recordedAs, moveOf}
-use Rattle.rules.specs.Entries as entries
+use borrow.Author.Tests.{eq-eqb, ne-eqb, le-leb}
+use Rattle.rules.specs.Levels.{Read}
+use Rattle.rules.specs.Entries.{whoseOf, recordedAs}
 use Rattle.rules.specs.Form as form
-use Rattle.rules.specs.Lent.{Ledger, readIn, commandIn, moveIn, effectOf, effectIn, atLevel, entered, ledgerWith, stepRefusal}
-use Rattle.rules.proofs.Sound.{step-passed, sound, sound-ledger, ledger-kept}
+use Rattle.rules.specs.Lent.{lentGood, commandIn, stepRefusal}
+use Rattle.rules.proofs.Sound.{step-passed}
+use Rattle.card.specs.declared.Card.{Card}
 use Rattle.card.specs.Values.{cardOf}
-use Rattle.pins.specs.Values.{levelOf}
 use Rattle.pins.specs.Fronts.{frontOf}
 use Rattle.pins.proofs.Fronts.{entry-room}
-use Rattle.ledger.specs.Values.{ledgerOf, codeOf}
 use Rattle.bank.specs.declared.Record.{Record}
-use Rattle.bank.specs.Values.{shareOf, lentOf}
-use Rattle.bank.specs.After.{shareAfter, recordAfter}
+use Rattle.bank.specs.Values.{lentOf}
+use Rattle.bank.specs.After.{recordAfter}
 use Rattle.bank.proofs.Remembered.{bank-low}
 use Rattle.bank.proofs.Changed.{recorded-bank}
 use Rattle.step.specs.declared.Ran.{Ran}
 use Rattle.step.specs.Values.{recordWith}
 use Rattle.step.specs.Runs.{entryAt, takes, commandsBy, refreshesBy, ran, behind, runOf}
-use Rattle.step.proofs.Kept.{ledger-back}
 use Rattle.step.proofs.Onward.{taken-if}
 use Rattle.lines.specs.Written.{Lined}
-use Rattle.lines.specs.Runs.{Standing, standingAfter, lineAt, nextAt, linesAt}
+use Rattle.lines.specs.Runs.{Standing, counterFor, lineAt, nextAt, linesAt}
 use Rattle.chunks.specs.declared.State.{State}
 use Rattle.chunks.specs.declared.fields.Move.the-variants.{On}
 use Rattle.chunks.specs.declared.fields.Took.{Took}
@@ -49,6 +46,7 @@ use Rattle.chunks.proofs.Short.{entry-short}
 use Rattle.chunks.proofs.Turns.{hasRoom, lineIf}
 use Rattle.chunks.proofs.Leads.{leads-nowhere, leads-on, leads-then}
 use Rattle.chunks.proofs.Lining.{lined-nothing}
+use Rattle.chunks.proofs.Stood.{whoseIn, readBy, part-low, counter-by, counter-low, read-by, stands-after}
 
 -- numbers of the state that 64 bits hold
 pub record Small (st : State) : Type 0 where
@@ -68,9 +66,8 @@ module _ (st : State) (bs : List ℕ) (comes : entryMayCome st ≡ true) (b : By
   long : 10 ≤ length bs
   long = entry-room bs (parts .0)
 
-  low : st .rec .share .counter ≤ 7
-  unfolding lentOf shareOf
-  low = leb-true (st .rec .share .counter) 7 (sound (lentOf (st .rec)) (step-passed (lentOf (st .rec)) (entryAt bs) (parts .1) .good) .counter)
+  good : lentGood (lentOf (st .rec)) ≡ true
+  good = step-passed (lentOf (st .rec)) (entryAt bs) (parts .1) .good
 
   abbrev field : form.Field
   field = fieldIn (take 10 bs)
@@ -92,11 +89,10 @@ module _ (st : State) (bs : List ℕ) (comes : entryMayCome st ≡ true) (b : By
   stands = standsIn (st .rec)
 
   abbrev here : Read
-  here = readPins (st .rec .card .sleeps) (stands .level) (frontOf bs .pins)
+  here = readBy (st .rec) (entryAt bs)
 
-  read-is : readIn (lentOf (st .rec)) (entryAt bs) ≡ here
-  unfolding readIn entries.read lentOf shareOf ledgerOf cardOf
-  read-is = refl
+  abbrev counter : ℕ
+  counter = counterFor (whoseIn (st .rec) (entryAt bs)) (st .rec .first .counter) (st .rec .second .counter)
 
   -- the state behind it
   abbrev pub next : State
@@ -121,32 +117,30 @@ module _ (st : State) (bs : List ℕ) (comes : entryMayCome st ≡ true) (b : By
     after-is,
   )
 
-  line-here : lineOf st bs ≡ lineAt (st .rec .card .sleeps) stands bs
-  unfolding lineOf headAt headLine fieldLine lineAt commandIn
-  line-here = rw (fronted .is, headLine, fieldLine, eq-eqb (field .tag) 32 tag-is, entry-is, read-is)
+  abbrev card : Card
+  card = st .rec .card
 
-  line-short : length (lineAt (st .rec .card .sleeps) stands bs) ≤ 24
+  line-here : lineOf st bs ≡ lineAt (card .sleeps) (card .paired) stands bs
+  unfolding lineOf headAt headLine fieldLine lineAt commandIn whoseOf
+  line-here =
+      rw (fronted .is, headLine, fieldLine, eq-eqb (field .tag) 32 tag-is, entry-is, read-by (st .rec) (entryAt bs) good, counter-by (st .rec) (entryAt bs))
+      (unfold lentOf cardOf in refl)
+
+  line-short : length (lineAt (card .sleeps) (card .paired) stands bs) ≤ 24
   unfolding lineAt
   line-short =
-      entry-short (frontOf bs .stamp) (recordedAs here) (st .rec .share .counter)
+      entry-short (frontOf bs .stamp) (recordedAs here) (whoseIn (st .rec) (entryAt bs)) counter
       (rw (front-is bs (parts .0)) (four-small (drop 3 bs) (bytes-drop 3 bs b)))
-      (bank-low (recordedAs here) (st .rec .share .counter) low (recorded-bank (st .rec .card .sleeps) (stands .level) (frontOf bs .pins)))
+      (bank-low (recordedAs here) counter (counter-low (st .rec) (entryAt bs) good) (recorded-bank (card .sleeps) (card .paired) (stands .level) (frontOf bs .pins)))
+      (part-low (st .rec) (entryAt bs))
 
-  -- the level is stored as it is
-  next-level : levelOf (codeOf (ledgerWith (lentOf (st .rec)) (entryAt bs)) .level) ≡ levelAfter (moveOf here) (stands .level)
-  unfolding ledgerOf ledgerWith entered atLevel effectIn effectOf lentOf shareOf
-  next-level =
-      let l = lentOf (st .rec) in
-      let there = ledgerWith l (entryAt bs) in
-      ap (λ (g : Ledger). g .level) (ledger-back there (sound-ledger (l .card) there (ledger-kept l (entryAt bs) (parts .1)) .owing)) ∙ rw read-is
+  next-stands : standsIn (next .rec) ≡ nextAt (card .sleeps) (card .paired) stands bs
+  unfolding stateWith nextAt
+  next-stands = stands-after (st .rec) (entryAt bs) (parts .1)
 
-  next-stands : standsIn (next .rec) ≡ nextAt (st .rec .card .sleeps) stands bs
-  unfolding stateWith recordWith recordAfter shareAfter nextAt standingAfter commandIn moveIn
-  next-stands = rw (next-level, read-is)
-
-  next-sleeps : next .rec .card .sleeps ≡ st .rec .card .sleeps
+  next-card : next .rec .card ≡ card
   unfolding stateWith recordWith recordAfter
-  next-sleeps = refl
+  next-card = refl
 
   next-comes : entryMayCome next ≡ true
   unfolding stateWith recordWith recordAfter
@@ -191,8 +185,8 @@ ranged-nowhere q room st bs most s gone = record {
   stops = λ h z. gone h;
 }
 
-one-line : (q : Bool) (st : State) (bs : List ℕ) (k : ℕ) (next : Record) → lineOf st bs ≡ lineAt (st .rec .card .sleeps) (standsIn (st .rec)) bs →
-    standsIn next ≡ nextAt (st .rec .card .sleeps) (standsIn (st .rec)) bs → next .card .sleeps ≡ st .rec .card .sleeps →
+one-line : (q : Bool) (st : State) (bs : List ℕ) (k : ℕ) (next : Record) → lineOf st bs ≡ lineAt (st .rec .card .sleeps) (st .rec .card .paired) (standsIn (st .rec)) bs →
+    standsIn next ≡ nextAt (st .rec .card .sleeps) (st .rec .card .paired) (standsIn (st .rec)) bs → next .card ≡ st .rec .card →
     lineIf q st bs ++ linesIf q k next (drop 10 bs) ≡ linesIf q (suc k) (st .rec) bs
 unfolding linesIf linesAt
 one-line true st bs k next e f g = refl
@@ -247,7 +241,7 @@ module _ (k : ℕ) (q : Bool) (room : ℕ) (st : State) (bs : List ℕ) (comes :
         inside = omega arith;
         leads =
             rw (
-              ← one-line q st bs (g .count) (then .rec) (line-here st bs comes b go) (next-stands st bs comes b go) (next-sleeps st bs comes b go),
+              ← one-line q st bs (g .count) (then .rec) (line-here st bs comes b go) (next-stands st bs comes b go) (next-card st bs comes b go),
               ← add-up st (recordWith (st .rec) (entryAt bs)) 10 (commandsBy (st .rec) (entryAt bs)) (refreshesBy (st .rec) (entryAt bs)) r,
             )
             (leads-then q room st bs 10 (r .used) (lineIf q st bs) (linesIf q (g .count) (then .rec) (drop 10 bs)) then (stateWith then r) first (g .leads));

@@ -5,8 +5,9 @@ use mathlib.Core.List.{[], _∷_}
 use native.Mathlib.Omega.{arith}
 use lib.ListN.{length, length-append}
 use Rattle.rules.specs.Commands.{Kind, NOP, MRW, MRR, REFPB, REFAB, ACT, RD, WR, PRE, PREA, RESERVED, Command, kindOf, apOf}
+use Rattle.rules.specs.Whose.{Whose, sole, part, neither, partOf}
 use Rattle.rules.specs.Past.{bankAt}
-use Rattle.rules.specs.Lines.{decimal, nameOf, showsBank, entryLine}
+use Rattle.rules.specs.Lines.{decimal, nameOf, showsBank, shownPart, entryLine}
 use Rattle.lines.proofs.Decimals.{short}
 
 name-short : (k : Kind) (ap : Bool) → length (nameOf k ap) ≤ 5
@@ -29,13 +30,20 @@ bank-short : (b : Bool) (x : ℕ) → x ≤ 7 → length (cond b (decimal x) (45
 bank-short true x h = short 0 x (omega arith)
 bank-short false x h = omega arith
 
-pub entry-short : (t : ℕ) (c : Command) (n : ℕ) → t < 2 ^ 32 → bankAt c n ≤ 7 → length (entryLine t c n) ≤ 24
+part-short : (w : Whose) → partOf w < 2 → length (shownPart w) ≤ 2
+unfolding shownPart partOf
+part-short sole h = omega arith
+part-short (part p) h = omega (arith, short 0 p (omega arith))
+part-short neither h = omega arith
+
+pub entry-short : (t : ℕ) (c : Command) (w : Whose) (n : ℕ) → t < 2 ^ 32 → bankAt c n ≤ 7 → partOf w < 2 → length (entryLine t c w n) ≤ 24
 unfolding entryLine
-entry-short t c n h b =
+entry-short t c w n h b p =
     simp length-append
     (omega (
       arith,
       short 9 t (omega arith),
       name-short (kindOf c) (apOf c),
       bank-short (showsBank (kindOf c)) (bankAt c n) b,
+      part-short w p,
     ))

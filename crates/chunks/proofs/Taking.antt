@@ -18,12 +18,15 @@ use Rattle.card.specs.Values.{cardOf}
 use Rattle.card.specs.Reading as reading
 use Rattle.card.specs.Reading.{ReadAs}
 use Rattle.pins.specs.Fronts.{stampIn}
-use Rattle.ledger.specs.declared.After.{After}
+use Rattle.ledger.specs.declared.Ledger.{Ledger}
 use Rattle.ledger.specs.Values as paid
 use Rattle.ledger.specs.Values.{isNone}
 use Rattle.ledger.proofs.Promises.{code-is}
+use Rattle.bank.specs.declared.Ledgers.{Ledgers}
+use Rattle.bank.specs.declared.Paid.{Paid}
 use Rattle.bank.specs.declared.Record.{Record}
-use Rattle.bank.specs.Values.{shareOf, lentOf, freshOf}
+use Rattle.bank.specs.Values.{lentOf, freshOf}
+use Rattle.bank.specs.Both.{ledgersIn, ledgersAs, secondOf, ClosedAs}
 use Rattle.step.specs.Runs.{entryAt}
 use Rattle.step.proofs.Onward.{rest-of}
 use Rattle.chunks.specs.declared.State.{State}
@@ -42,6 +45,7 @@ use Rattle.chunks.specs.Took.{
   cardTook,
   entryRefused,
   entryTook,
+  ledgersEnd,
   endAfter,
   endTook,
   fieldTook,
@@ -110,25 +114,35 @@ pub end-in : (bs : List ℕ) → length bs ≡ 7 → form.endOf (fieldIn bs) ≡
 unfolding form.endOf fieldIn stampIn
 end-in bs h = rw (length-drop, le-leb 4 (length bs - 3) (omega arith), take-all 4 (drop 3 bs) (rw length-drop (omega arith)))
 
-abbrev Closed : Record → (end : ℕ) → After → Type 0
-Closed rec end r = let l = lentOf rec in paid.Left (lent.closeRefusal l end) (l .share .ledger) (lent.movedOn (l .card) (l .share .ledger) end) r
-
-pub end-left : (rec : Record) (bs : List ℕ) (t : ℕ) (r : After) → length bs ≡ 7 → t ≡ stampIn (drop 3 bs) → Closed rec t r → Closed rec (form.endOf (fieldIn bs)) r
+pub end-left : (rec : Record) (bs : List ℕ) (t : ℕ) (r : Paid) → length bs ≡ 7 → t ≡ stampIn (drop 3 bs) → ClosedAs rec t r → ClosedAs rec (form.endOf (fieldIn bs)) r
 end-left rec bs t r n te l = rw (end-in bs n, ← te) l
 
-module _ (st : State) (f : form.Field) (r : After) (l : Closed (st .rec) (form.endOf f) r) where
+-- a ledger as it is stored; that of a part which is not there stays
+second-is : (paired : Bool) (old : Ledgers) (g : Ledger) (h : lent.Ledger) → paid.ledgerOf g ≡ secondOf paired old h → g ≡ cond paired (paid.codeOf h) (old .second)
+unfolding secondOf
+second-is true old g h e = sym (code-is g) ∙ ap paid.codeOf e
+second-is false old g h e = sym (code-is g) ∙ ap paid.codeOf e ∙ code-is (old .second)
+
+module _ (st : State) (f : form.Field) (r : Paid) (l : ClosedAs (st .rec) (form.endOf f) r) where
+  ledgers-are : lent.closeRefusal (lentOf (st .rec)) (form.endOf f) ≡ none → r .ledgers ≡ ledgersEnd (st .rec) (form.endOf f)
+  unfolding ledgersEnd ledgersIn paid.unlessRefused
+  ledgers-are o =
+      let old = ledgersIn (st .rec) in
+      let there = lent.movedOn (cardOf (st .rec .card)) (paid.ledgerOf (st .rec .second .ledger)) (form.endOf f) in
+      λ i. ledgersAs
+      ((sym (code-is (r .ledgers .first)) ∙ ap paid.codeOf (rw o at (l .first))) i)
+      (second-is (st .rec .card .paired) old (r .ledgers .second) there (rw o at (l .second)) i)
+
   pub end-refused : (x : Told) → toldOf x ≡ paid.refusalOf (r .answer) → (x .0 ≡ 0 → ⊥)
       → tookAs (End (Refused (x .0) (x .1) (st .offset) (x .2))) st ≡ endTook st f
   unfolding endTook refusedHere refusal
   end-refused x e n = rw (told-bad _ x (e ∙ l .told) n, endTook)
 
-  pub end-taken : (x : Told) → toldOf x ≡ paid.refusalOf (r .answer) → x .0 ≡ 0 → form.sizeOf f ≡ 7 → tookAs (On 7) (endOn st (r .ledger)) ≡ endTook st f
-  unfolding endTook endAfter endOn paid.unlessRefused lentOf shareOf
+  pub end-taken : (x : Told) → toldOf x ≡ paid.refusalOf (r .answer) → x .0 ≡ 0 → form.sizeOf f ≡ 7 → tookAs (On 7) (endOn st (r .ledgers)) ≡ endTook st f
+  unfolding endTook endAfter endOn
   end-taken x e z n =
       let o = told-good _ x (e ∙ l .told) z in
-      let h : r .ledger ≡ paid.codeOf (lent.movedOn (cardOf (st .rec .card)) (paid.ledgerOf (st .rec .share .ledger)) (form.endOf f)) =
-      sym (code-is (r .ledger)) ∙ ap paid.codeOf (rw o at (l .ledger)) in
-      rw (o, endTook, n, h)
+      rw (o, endTook, n, ledgers-are o)
 
 -- ---- behind the end
 pub behind-none : (st : State) (bs : List ℕ) → length bs ≡ 0 → tookAs Wait st ≡ behindTook st bs

@@ -6,9 +6,13 @@ use mathlib.Core.List.{List, [], _++_}
 use lib.Dec.{leb, eqb}
 use lib.ListN.{length, drop}
 use Rattle.rules.specs.Form.{Field, Head, whole, cut, badTag, badLength, entryOf}
-use Rattle.rules.specs.Lent.{commandIn}
+use Rattle.rules.specs.Entries.{whoseOf}
+use Rattle.rules.specs.Lent.{ownIn, commandIn}
 use Rattle.rules.specs.Lines.{entryLine}
 use Rattle.card.specs.Reading.{blankCard}
+use Rattle.lines.specs.declared.Owed.{Owed}
+use Rattle.lines.specs.declared.Owed.the-variants.{One, Two}
+use Rattle.bank.specs.declared.Record.{Record}
 use Rattle.bank.specs.Values.{lentOf, freshOf}
 use Rattle.chunks.specs.declared.State.{State}
 use Rattle.chunks.specs.declared.Fed.{Fed}
@@ -27,7 +31,9 @@ startOf = record { tag = 0; rec = freshOf blankCard; commands = 0; refreshes = 0
 -- the line of an entry; no other field has one
 unfoldable pub fieldLine : State → Field → List ℕ
 fieldLine st f =
-    cond (eqb (f .tag) 32) (entryLine (entryOf f .stamp) (commandIn (lentOf (st .rec)) (entryOf f)) (st .rec .share .counter)) []
+    let l = lentOf (st .rec) in
+    let e = entryOf f in
+    cond (eqb (f .tag) 32) (entryLine (e .stamp) (commandIn l e) (whoseOf (l .card) e) (ownIn l e .counter)) []
 
 unfoldable pub headLine : State → Head → List ℕ
 headLine st cut = []
@@ -78,8 +84,12 @@ pub record FedAs (h : Heard) (old new : List ℕ) (r : Fed) : Type 0 where
   pub memory : new ≡ h .text ++ drop (length (h .text)) old
 
 -- ---- where no more bytes come
+-- by each part that there is
+unfoldable pub owedOf : Record → Owed
+owedOf rec = cond (rec .card .paired) (Two (rec .first .ledger .owed) (rec .second .ledger .owed)) (One (rec .first .ledger .owed))
+
 unfoldable pub endedAt : State → Verdict
-endedAt st = cond (eqb (st .tag) 33) (Accepted (st .commands) (st .refreshes) (st .rec .share .ledger .owed)) (Refused 1 0 (st .offset) 0)
+endedAt st = cond (eqb (st .tag) 33) (Accepted (st .commands) (st .refreshes) (owedOf (st .rec))) (Refused 1 0 (st .offset) 0)
 
 unfoldable pub overAt : State → What → Verdict
 overAt st More = endedAt st

@@ -12,7 +12,7 @@ use Rattle.pins.specs.Values.{levelOf}
 use Rattle.pins.specs.Fronts.{frontOf}
 use Rattle.lines.specs.Written.{Lined}
 use Rattle.lines.specs.Runs.{Standing, standing, linesAt}
-use Rattle.ledger.specs.declared.Ledger.{Ledger}
+use Rattle.bank.specs.declared.Ledgers.{Ledgers}
 use Rattle.bank.specs.declared.Record.{Record}
 use Rattle.step.specs.declared.Ran.{Ran}
 use Rattle.step.specs.Runs.{takes}
@@ -45,8 +45,8 @@ pub record NotTaken (rec : Record) (bs : List ℕ) : Type 0 where
   pub whole : frontOf bs .whole ≡ true
   pub refused : takes rec bs ≡ false
 
--- the state behind the end, with the ledger then
-unfoldable pub endOn : State → Ledger → State
+-- the state behind the end, with the ledgers then
+unfoldable pub endOn : State → Ledgers → State
 endOn st g = record {
   tag = 33;
   rec = recordClosed (st .rec) g;
@@ -62,10 +62,10 @@ Leads q room st bs n lines next = heardOf q room st bs ≡ behind n lines (heard
 
 -- what the lines go by of a record that takes these entries
 abbrev pub standsIn : Record → Standing
-standsIn rec = standing (levelOf (rec .share .ledger .level)) (rec .share .counter)
+standsIn rec = standing (levelOf (rec .first .ledger .level)) (rec .first .counter) (rec .second .counter)
 
 unfoldable pub linesIf : (quiet : Bool) → (count : ℕ) → Record → List ℕ → List ℕ
-linesIf q k rec bs = cond q [] (linesAt (rec .card .sleeps) k (standsIn rec) bs)
+linesIf q k rec bs = cond q [] (linesAt (rec .card .sleeps) (rec .card .paired) k (standsIn rec) bs)
 
 -- the state behind a run
 unfoldable pub stateWith : State → Ran → State

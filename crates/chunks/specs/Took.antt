@@ -8,13 +8,16 @@ use lib.Dec.{eqb}
 use Rattle.rules.specs.Checks.{Refusal}
 use Rattle.rules.specs.Form.{Field, sizeOf, number, timingOf, Head, whole, cut, badTag, badLength, headOf, entryOf, endOf}
 use Rattle.rules.specs.Lent.{stepRefusal, closeRefusal, movedOn}
+use Rattle.card.specs.declared.Card.{Card}
 use Rattle.card.specs.Values.{cardOf}
 use Rattle.card.specs.Reading.{put, readRefusal}
 use Rattle.ledger.specs.declared.Ledger.{Ledger}
 use Rattle.ledger.specs.Values.{ledgerOf, codeOf}
-use Rattle.bank.specs.declared.Share.{Share}
+use Rattle.bank.specs.declared.Ledgers.{Ledgers}
 use Rattle.bank.specs.declared.Record.{Record}
 use Rattle.bank.specs.Values.{lentOf, freshOf}
+use Rattle.bank.specs.After.{withLedger}
+use Rattle.bank.specs.Both.{ledgersAs}
 use Rattle.step.specs.Values.{recordWith}
 use Rattle.step.specs.Runs.{commandsBy, refreshesBy}
 use Rattle.chunks.specs.declared.State.{State}
@@ -66,26 +69,21 @@ entryRefused st f = stepRefusal (lentOf (st .rec)) (entryOf f)
 unfoldable pub entryTook : State → Field → Took
 entryTook st f = elim (entryRefused st f) [ none ↦ tookAs (On (sizeOf f)) (entryAfter st f) | some x ↦ refusedHere st x ]
 
--- ---- the end: the record's ledger then stands at E
-unfoldable pub shareClosed : Share → Ledger → Share
-shareClosed s g = record {
-  mr2 = s .mr2;
-  counter = s .counter;
-  latest = s .latest;
-  moves = s .moves;
-  bus = s .bus;
-  four = s .four;
-  banks = s .banks;
-  ledger = g;
-}
+-- ---- the end: the record's ledgers then stand at E, that of a part which is not there as it stood
+unfoldable pub recordClosed : Record → Ledgers → Record
+recordClosed rec g = record { card = rec .card; last = rec .last; first = withLedger (rec .first) (g .first); second = withLedger (rec .second) (g .second) }
 
-unfoldable pub recordClosed : Record → Ledger → Record
-recordClosed rec g = record { card = rec .card; last = rec .last; share = shareClosed (rec .share) g }
+abbrev pub ledgerEnd : Card → (end : ℕ) → Ledger → Ledger
+ledgerEnd card end g = codeOf (movedOn (cardOf card) (ledgerOf g) end)
+
+unfoldable pub ledgersEnd : Record → (end : ℕ) → Ledgers
+ledgersEnd rec end =
+    ledgersAs (ledgerEnd (rec .card) end (rec .first .ledger)) (cond (rec .card .paired) (ledgerEnd (rec .card) end (rec .second .ledger)) (rec .second .ledger))
 
 unfoldable pub endAfter : State → Field → State
 endAfter st f = record {
   tag = 33;
-  rec = recordClosed (st .rec) (codeOf (movedOn (cardOf (st .rec .card)) (ledgerOf (st .rec .share .ledger)) (endOf f)));
+  rec = recordClosed (st .rec) (ledgersEnd (st .rec) (endOf f));
   commands = st .commands;
   refreshes = st .refreshes;
   offset = wrapped (st .offset + sizeOf f);

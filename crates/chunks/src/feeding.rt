@@ -1,7 +1,7 @@
 // The whole fields of a run of bytes.
 ghost use mathlib.Core.Path.{_≡_};
 ghost use lib.ListN.{length};
-ghost use Rattle.chunks.specs.Heard.{startOf, heardOf, FedAs, endedAt, finishedOf};
+ghost use Rattle.chunks.specs.Heard.{startOf, heardOf, FedAs, owedOf, endedAt, finishedOf};
 ghost use Rattle.chunks.specs.Parts.{fedOf};
 use crate::Fed;
 use crate::State;
@@ -10,6 +10,8 @@ use crate::What;
 use crate::fields;
 use crate::fields::Move;
 use crate::leaps;
+use bank::Record;
+use lines::Owed;
 
 // Before the first byte.
 pub fn start() -> State
@@ -72,14 +74,25 @@ pub fn feed(state: State, bytes: &[u8], out: &mut [u8], quiet: bool) -> Fed
     }
 }
 
+// By each part that there is.
+fn owed_in(rec: Record) -> Owed
+    ensures { λ r. ⌜ r ≡ owedOf rec ⌝ }
+{
+    if rec.card.paired {
+        return Owed::Two(rec.first.ledger.owed, rec.second.ledger.owed);
+    }
+    Owed::One(rec.first.ledger.owed)
+}
+
 fn ended(state: State) -> Verdict
     ensures { λ r. ⌜ r ≡ endedAt state ⌝ }
 {
+    let rec = state.rec;
     if state.tag == 33 {
         return Verdict::Accepted {
             commands: state.commands,
             refreshes: state.refreshes,
-            owed: state.rec.share.ledger.owed,
+            owed: owed_in(rec),
         };
     }
     Verdict::Refused {

@@ -11,7 +11,7 @@ use crate::Verdict;
 use crate::heads;
 use crate::heads::Head;
 use crate::told;
-use ledger::Ledger;
+use bank::Ledgers;
 
 // What the bytes at a place are: a whole field of so many bytes, one whose rest is not there yet, or the end of the judging.
 pub enum Move {
@@ -82,14 +82,19 @@ fn take_entry(state: State, bytes: &[u8]) -> Took
     refused(state, told.0, told.1, told.2)
 }
 
-// The state behind the end: the record's ledger then stands at E.
-fn end_on(state: State, ledger: Ledger) -> State
-    ensures { λ r. ⌜ r ≡ endOn state ledger ⌝ }
+// The state behind the end: the record's ledgers then stand at E.
+fn end_on(state: State, ledgers: Ledgers) -> State
+    ensures { λ r. ⌜ r ≡ endOn state ledgers ⌝ }
 {
+    let one = ledgers.first;
+    let two = ledgers.second;
     let mut rec = state.rec;
-    let mut share = rec.share;
-    share.ledger = ledger;
-    rec.share = share;
+    let mut first = rec.first;
+    let mut second = rec.second;
+    first.ledger = one;
+    second.ledger = two;
+    rec.first = first;
+    rec.second = second;
     State {
         tag: 33,
         rec: rec,
@@ -105,14 +110,14 @@ fn take_end(state: State, bytes: &[u8]) -> Took
 {
     let after = bank::close(state.rec, pins::stamp_at(bytes, 3));
     let answer = after.answer;
-    let ledger = after.ledger;
+    let ledgers = after.ledgers;
     let told = told::of_ledger(answer);
     if told.0 != 0 {
         return refused(state, told.0, told.1, told.2);
     }
     Took {
         how: Move::On(7),
-        state: end_on(state, ledger),
+        state: end_on(state, ledgers),
     }
 }
 

@@ -49,10 +49,18 @@ fn put_lines(rec: Record, bytes: &[u8], count: usize, out: &mut [u8], quiet: boo
     if quiet {
         return 0;
     }
-    let share = rec.share;
-    let ledger = share.ledger;
+    let ledger = rec.first.ledger;
     let level = ledger.level;
-    lines::entry_lines(out, bytes, count, rec.card.sleeps, level, share.counter)
+    lines::entry_lines(
+        out,
+        bytes,
+        count,
+        rec.card.sleeps,
+        rec.card.paired,
+        level,
+        rec.first.counter,
+        rec.second.counter,
+    )
 }
 
 // None where no entry may come: before the card is whole, and behind the end field.

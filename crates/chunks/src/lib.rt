@@ -10,14 +10,15 @@ use bank::Record;
 pub use feeding::feed;
 pub use feeding::finish;
 pub use feeding::start;
+use lines::Owed;
 pub use verdicts::verdict_line;
 
-// What comes back at the end: entries other than NOP, counted refreshes and the ledger at E with 8 added; or the four numbers of a refusal.
+// What comes back at the end: entries other than NOP, counted refreshes and what is owed at E; or the four numbers of a refusal.
 pub enum Verdict {
     Accepted {
         commands: u64,
         refreshes: u64,
-        owed: u8,
+        owed: Owed,
     },
     Refused {
         number: u8,

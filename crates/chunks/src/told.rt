@@ -16,6 +16,7 @@ pub fn of_step(answer: step::Answer) -> Told
         step::Answer::Early => Told(5, 0, 0),
         step::Answer::Overdue { rule, cycle } => Told(11, rule, cycle),
         step::Answer::WrongBits => Told(6, 0, 0),
+        step::Answer::Clash => Told(24, 0, 0),
         step::Answer::Reserved => Told(7, 0, 0),
         step::Answer::State => Told(8, 0, 0),
         step::Answer::Barred => Told(16, 0, 0),

@@ -1,6 +1,7 @@
 -- Laws of `chunks` against the rules: a state that stands for what was read; the whole file and the demands; any way of cutting it. The promise determines its answer.
 pub mod Prefix
 pub mod Overflow
+pub mod Counts
 pub mod Stands
 pub mod StandsCard
 pub mod StandsEntry

@@ -8,7 +8,7 @@ use lib.Dec.{leb, eqb}
 use lib.ListN.{length, drop, length-drop}
 use borrow.Author.Tests.{leb-true, leb-false}
 use Rattle.rules.specs.Lists.{all}
-use Rattle.rules.specs.Form.{Field, Head, _of_, lengths, lengthGood, headOf}
+use Rattle.rules.specs.Form.{Field, Head, _of_, lengths, lengthGood}
 use Rattle.rules.specs.FileReading.{Cut, noTag, noLength, halfLength, shortValue}
 use Rattle.rules.proofs.FileHeads.{HeadSays, is-whole, is-cut, is-bad-tag, is-bad-length, head-says}
 use Rattle.card.proofs.Lengths.{listed-has}

@@ -1,10 +1,12 @@
 -- The promise of the judge determines its verdict; and what it claims of one.
-use mathlib.Core.Path.{_≡_, refl, ap, sym, _∙_}
+use mathlib.Core.Path.{_≡_, refl, sym, _∙_}
 use mathlib.Core.List.{[], _∷_}
 use Rattle.rules.specs.File.{FileVerdict, accepted, refused}
 use Rattle.rules.proofs.Determined.{tells, Promise, Plainly, Determined, determined, fact-of}
 use Rattle.ledger.specs.Values.{stored}
 use Rattle.ledger.proofs.Promises.{stored-is}
+use Rattle.lines.specs.declared.Owed.the-variants.{One, Two}
+use Rattle.lines.specs.Values.{ledgersOf}
 use Rattle.chunks.specs.declared.Verdict.{Verdict}
 use Rattle.chunks.specs.declared.Verdict.the-variants.{Accepted, Refused}
 use Rattle.chunks.specs.Values.{verdictOf}
@@ -12,13 +14,15 @@ use Rattle.judge.proofs.judge as judge
 
 -- ---- no two verdicts read as one
 codeFor : FileVerdict → Verdict
-codeFor (accepted m n []) = Accepted m n 0
-codeFor (accepted m n (l ∷ ls)) = Accepted m n (stored l)
+codeFor (accepted m n []) = Accepted m n (One 0)
+codeFor (accepted m n (l ∷ [])) = Accepted m n (One (stored l))
+codeFor (accepted m n (l ∷ k ∷ ls)) = Accepted m n (Two (stored l) (stored k))
 codeFor (refused k q at t) = Refused k q at t
 
 code-for : (r : Verdict) → codeFor (verdictOf r) ≡ r
-unfolding verdictOf codeFor
-code-for (Accepted m n o) = ap (Accepted m n) (stored-is o)
+unfolding verdictOf ledgersOf codeFor
+code-for (Accepted m n (One a)) = rw (stored-is a)
+code-for (Accepted m n (Two a b)) = rw (stored-is a, stored-is b)
 code-for (Refused k q at t) = refl
 
 pub one-reading : (r s : Verdict) → verdictOf r ≡ verdictOf s → r ≡ s

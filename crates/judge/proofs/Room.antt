@@ -1,5 +1,5 @@
 -- No run without lines lacks room; nor does one with lines that has 64 bytes of room, and 64 more for each of its bytes.
-use Prim.Native.Nat.{ℕ, zero, suc, _+_, _*_, _≤_}
+use Prim.Native.Nat.{ℕ, zero, suc, _+_, _*_, _≤_, _<_}
 use mathlib.Core.Path.{_≡_, refl, ap, sym, _∙_}
 use mathlib.Core.Bool.{Bool, true, false, cond, _||_, or-true}
 use mathlib.Core.List.{List, [], _∷_}
@@ -8,15 +8,18 @@ use lib.Dec.{leb, eqb}
 use lib.ListN.{length, drop, length-drop}
 use borrow.Author.Tests.{le-leb}
 use Rattle.rules.specs.Commands.{Command}
-use Rattle.rules.specs.Past.{Past}
-use Rattle.rules.specs.Form.{Field, bytesOf, Head, entryOf}
+use Rattle.rules.specs.Whose.{Whose, partOf}
+use Rattle.rules.specs.Past.{Past, bankAt}
+use Rattle.rules.specs.Form.{Field, bytesOf, Head, cardOf, entryOf}
 use Rattle.rules.specs.File.{FileVerdict, Step, begun}
-use Rattle.rules.specs.Entries.{read}
-use Rattle.rules.specs.Lent.{readIn, commandIn}
+use Rattle.rules.specs.Entries.{Entry, whoseOf, partIn, ownFor, read}
+use Rattle.rules.specs.Lent.{ownIn, readIn, commandIn}
 use Rattle.rules.specs.Lines.{entryLine}
+use Rattle.rules.proofs.Filtered.{judging-part}
 use Rattle.rules.proofs.Taken.{counter-good}
 use Rattle.rules.proofs.FileHeads.{HeadSays, is-whole, is-cut, is-bad-tag, is-bad-length, head-says}
 use Rattle.bank.specs.Values.{lentOf}
+use Rattle.bank.proofs.Shares.{is-low}
 use Rattle.bank.proofs.Remembered.{bank-low}
 use Rattle.bank.proofs.Changed.{recorded-bank}
 use Rattle.chunks.specs.declared.State.{State}
@@ -44,15 +47,29 @@ module _ {st : State} {fs : List Field} {past : Past} {at : ℕ} (s : Stands st 
   unfolding fieldLine commandIn
   field-short f b = go (eqb (f .tag) 32)
     where
-      counter : st .rec .share .counter ≤ 7
-      counter = rw (counter-is s) (counter-good past)
+      e : Entry
+      e = entryOf f
+
+      counter : ℕ
+      counter = ownIn (lentOf (st .rec)) e .counter
+
+      counter-low : counter ≤ 7
+      counter-low = rw (counter-is s e) (counter-good (ownFor (cardOf fs) past e))
 
       command : Command
-      command = commandIn (lentOf (st .rec)) (entryOf f)
+      command = commandIn (lentOf (st .rec)) e
 
-      go : (x : Bool) → length (cond x (entryLine (entryOf f .stamp) command (st .rec .share .counter)) []) ≤ 64
-      go true =
-          omega (arith, entry-short (entryOf f .stamp) command (st .rec .share .counter) (stamp-small f b) (bank-low command (st .rec .share .counter) counter (unfold commandIn readIn read in recorded-bank _ _ (entryOf f .pins))))
+      bank : bankAt command counter ≤ 7
+      bank = bank-low command counter counter-low (unfold commandIn readIn read in recorded-bank _ _ _ (e .pins))
+
+      whose : Whose
+      whose = whoseOf (lentOf (st .rec) .card) e
+
+      part : partOf whose < 2
+      part = unfold partIn in is-low (lentOf (st .rec) .card) _ (judging-part (lentOf (st .rec) .card) e)
+
+      go : (x : Bool) → length (cond x (entryLine (e .stamp) command whose counter) []) ≤ 64
+      go true = omega (arith, entry-short (e .stamp) command whose counter (stamp-small f b) bank part)
       go false = omega arith
 
   pub line-short : (bs : List ℕ) → Bytes bs → length (lineOf st bs) ≤ 64

@@ -8,16 +8,16 @@ use native.Mathlib.Omega.{arith}
 use lib.Dec.{eqb}
 use lib.ListN.{length}
 use borrow.Author.Tests.{ne-eqb}
-use Rattle.rules.specs.Past.{Past, stampsWhere, countedStamps, commandCount}
+use Rattle.rules.specs.Past.{Past, lastCycle, commandCount}
 use Rattle.rules.specs.Verdict.{refreshCount}
 use Rattle.rules.specs.Form.{Field, sizeOf, lastTag, cardWhole, mayCome, Head, headOf, cardOf}
 use Rattle.rules.specs.File.{begun}
 use Rattle.rules.specs.FileReading.{CardRight}
-use Rattle.rules.specs.Lent.{lastCycle, standing, AllTaken}
+use Rattle.rules.specs.Lent.{standing, AllTaken}
 use Rattle.rules.specs.Lent as lent
 use Rattle.rules.proofs.Tests.{some-none}
 use Rattle.rules.proofs.Rounds.{Rising}
-use Rattle.rules.proofs.Taken.{rising, below-last}
+use Rattle.rules.proofs.Taken.{rising, below-last, unmoved}
 use Rattle.rules.proofs.StepByList.{fresh-stands}
 use Rattle.rules.proofs.FileHeads.{HeadSays, head-only}
 use Rattle.rules.proofs.FileSteps.{tags-rise, tag-below}
@@ -32,26 +32,27 @@ use Rattle.chunks.specs.declared.State.{State}
 use Rattle.chunks.specs.Took.{wrapped, newest, headAt, headTook, tookOf}
 use Rattle.chunks.specs.Heard.{startOf, headLine, lineOf}
 use Rattle.chunks.proofs.Wraps.{wrapped-is}
-use Rattle.judge.proofs.Overflow.{few, commands-few, counted-few}
+use Rattle.judge.proofs.Overflow.{few, commands-few, refreshes-few}
+use Rattle.judge.proofs.Counts.{none-counted}
 
 pub record Stands (st : State) (fs : List Field) (past : Past) (at : ℕ) : Type 0 where
   pub card : CardRight fs
   pub tag : st .tag ≡ lastTag fs
   pub holds : Holds (st .rec .card) fs
   pub arrays : Whole (st .rec)
-  pub lent : lentOf (st .rec) ≡ standing (cardOf fs) past 0
+  pub lent : lentOf (st .rec) ≡ standing (cardOf fs) past unmoved
   pub taken : AllTaken (cardOf fs) past
   -- no entry comes before the card is whole
   pub first : cardWhole fs ≡ false → past ≡ []
   pub small : lastCycle past < 2 ^ 32
   pub commands : st .commands ≡ commandCount past
-  pub refreshes : st .refreshes ≡ refreshCount past
+  pub refreshes : st .refreshes ≡ refreshCount (cardOf fs) past
   pub offset : st .offset ≡ at
   -- a field has at most ten bytes
   pub near : at ≤ 10 * (length fs + length past)
 
 pub start-stands : Stands startOf [] [] 0
-unfolding startOf CardRight AllTaken lastCycle commandCount refreshCount countedStamps stampsWhere
+unfolding startOf CardRight AllTaken lastCycle commandCount
 start-stands = record {
   card = tt;
   tag = unfold lastTag in refl;
@@ -62,7 +63,7 @@ start-stands = record {
   first = λ e. refl;
   small = omega arith;
   commands = refl;
-  refreshes = refl;
+  refreshes = sym (none-counted (cardOf []));
   offset = refl;
   near = omega arith;
 }
@@ -112,14 +113,10 @@ module _ {st : State} {fs : List Field} {past : Past} {at : ℕ} (s : Stands st 
       let r : Rising past = rising (cardOf fs) past (s .taken) in
       omega (arith, s .small, few (suc (lastCycle past)) past r (below-last past r))
 
-  refreshes-few : refreshCount past ≤ length past
-  unfolding refreshCount
-  refreshes-few = counted-few past
-
   pub far-below : (st .commands ≤ 2 ^ 32) × (st .refreshes ≤ 2 ^ 32) × (st .offset < 2 ^ 36)
   far-below = (
     omega (arith, s .commands, commands-few past, entries-few),
-    omega (arith, s .refreshes, refreshes-few, entries-few),
+    omega (arith, s .refreshes, refreshes-few (cardOf fs) past, entries-few),
     omega (arith, s .offset, s .near, entries-few, tags-rise fs (s .card), tag-below fs (s .card)),
   )
 

@@ -1,11 +1,12 @@
 -- A field of the card: taken where its value is in range, and then the state stands for one field more; else refused.
 use Prim.Native.Nat.{ℕ, _+_, _≤_}
 use mathlib.Core.Path.{_≡_, refl, sym, _∙_}
-use mathlib.Core.Bool.{Bool, true, false}
+use mathlib.Core.Bool.{Bool, true, false, or-true}
+use mathlib.Core.Logic.{⊎-elim}
 use mathlib.Core.List.{List, [], _∷_}
 use native.Mathlib.Omega.{arith}
 use lib.ListN.{length}
-use borrow.Author.Tests.{ne-eqb, le-leb}
+use borrow.Author.Tests.{eq-eqb, ne-eqb, le-leb}
 use Rattle.rules.specs.Ranges.{within}
 use Rattle.rules.specs.Past.{Past}
 use Rattle.rules.specs.Folds.{orElse, firstOf}
@@ -17,7 +18,7 @@ use Rattle.rules.specs.Lent.{AllTaken}
 use Rattle.rules.proofs.Decided.{or-none}
 use Rattle.rules.proofs.StepByList.{fresh-stands}
 use Rattle.rules.proofs.FileSteps.{no-more, card-tag}
-use Rattle.card.specs.Reading.{readRefusal}
+use Rattle.card.specs.Reading.{ofCard, readRefusal}
 use Rattle.card.proofs.Fields.{good-field, holds-more}
 use Rattle.bank.specs.Values.{freshOf}
 use Rattle.bank.proofs.Beginning.{fresh-lent}
@@ -26,6 +27,7 @@ use Rattle.chunks.specs.declared.State.{State}
 use Rattle.chunks.specs.declared.fields.Move.the-variants.{On}
 use Rattle.chunks.specs.Took.{tookAs, refusedHere, cardAfter, cardTook, fieldTook}
 use Rattle.judge.proofs.Overflow.{size-small}
+use Rattle.judge.proofs.Counts.{none-counted}
 use Rattle.judge.proofs.Stands.{Stands, offset-behind}
 
 module _ {st : State} {fs : List Field} {past : Past} {at : ℕ} (s : Stands st fs past at) (f : Field) (form : RightForm (begun past) fs f) (o : ofTrace (f .tag) ≡ false) where
@@ -48,8 +50,17 @@ module _ {st : State} {fs : List Field} {past : Past} {at : ℕ} (s : Stands st 
   unfolding CardRight
   right g = (form-first, o, g, s .card)
 
-  pub tag-in : (1 ≤ f .tag) × (f .tag ≤ 22)
-  tag-in = card-tag fs f (s .card) form o
+  pub tag-in : f .tag ≤ 25
+  tag-in = ⊎-elim (λ (h : f .tag ≤ 22). omega arith) (λ (h : f .tag ≡ 25). omega arith) (card-tag fs f (s .card) form o .1)
+
+  of-a-card : ofCard (f .tag) ≡ true
+  unfolding ofCard within
+  of-a-card =
+      let t = card-tag fs f (s .card) form o in
+      ⊎-elim
+      (λ (h : f .tag ≤ 22). rw (le-leb 1 (f .tag) (t .0), le-leb (f .tag) 22 h))
+      (λ (h : f .tag ≡ 25). rw (eq-eqb (f .tag) 25 h, or-true))
+      (t .1)
 
   sized : lengthGood (f .tag) (length (f .value)) ≡ true
   sized = rw (form .whole) (form .size)
@@ -58,14 +69,8 @@ module _ {st : State} {fs : List Field} {past : Past} {at : ℕ} (s : Stands st 
   size = size-small fs f form (omega (arith, tag-in))
 
   read-is : readRefusal (st .rec .card) (f .tag) (f .value) ≡ unless (fieldGood fs f) 4
-  unfolding readRefusal firstOf orElse unless within
-  read-is = rw (
-    le-leb 1 (f .tag) (tag-in .0),
-    le-leb (f .tag) 22 (tag-in .1),
-    sized,
-    good-field (st .rec .card) fs f (s .holds),
-    or-none,
-  )
+  unfolding readRefusal firstOf orElse unless
+  read-is = rw (of-a-card, sized, good-field (st .rec .card) fs f (s .holds), or-none)
 
   pub of-card : fieldTook st f ≡ cardTook st f
   unfolding fieldTook
@@ -93,7 +98,7 @@ module _ {st : State} {fs : List Field} {past : Past} {at : ℕ} (s : Stands st 
         first = λ e. none-yet;
         small = s .small;
         commands = s .commands;
-        refreshes = s .refreshes;
+        refreshes = s .refreshes ∙ rw none-yet (none-counted (cardOf fs) ∙ sym (none-counted (cardOf (f ∷ fs))));
         offset = offset-behind s f size;
         near = omega (arith, s .near, size);
       }

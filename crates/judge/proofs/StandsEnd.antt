@@ -1,37 +1,41 @@
 -- The end field: refused as the list refuses it, or taken, and then the state remembers the verdict, which stands unless a byte more comes.
 use Prim.Native.Nat.{ℕ, suc, _+_, _^_, _≤_, _<_}
 use mathlib.Core.Path.{_≡_, refl, ap, sym, _∙_}
-use mathlib.Core.Bool.{true, false}
-use mathlib.Core.Logic.{⊎-elim}
-use mathlib.Core.List.{List, [], _∷_}
+use mathlib.Core.Bool.{Bool, true, false, cond}
+use mathlib.Core.List.{List, [], _∷_, map}
 use mathlib.Core.Option.{none, some}
 use native.Mathlib.Omega.{arith}
-use lib.Dec.{leb}
 use lib.IntN.{ℤ, subℕ}
-use borrow.Author.Tests.{eq-eqb, ne-eqb, lt-leb}
+use borrow.Author.Tests.{eq-eqb, ne-eqb}
 use Rattle.rules.specs.Card as rules
-use Rattle.rules.specs.Past.{Past}
-use Rattle.rules.specs.Folds.{orElse, firstOf}
+use Rattle.rules.specs.Whose.{parts}
+use Rattle.rules.specs.Past.{Past, ofPart}
 use Rattle.rules.specs.Account.{lpddr3, Book, ledgerAfter, ledgerOn}
-use Rattle.rules.specs.Clock.{bookOf, booksOf}
+use Rattle.rules.specs.Clock.{bookOf}
 use Rattle.rules.specs.Verdict.{ledgersAt}
-use Rattle.rules.specs.Checks.{Refusal, refusal, unless, notBelow, endChecks, endRefusal}
+use Rattle.rules.specs.Checks.{Refusal, endRefusal}
 use Rattle.rules.specs.Form.{Field, sizeOf, cardWhole, cardOf, endOf}
 use Rattle.rules.specs.File.{FileVerdict, acceptedAt, begun}
 use Rattle.rules.specs.FileReading.{RightForm}
-use Rattle.rules.specs.Lent.{Lent, closeRefusal, movedOn, lastCycle, standsAt, standing}
-use Rattle.rules.proofs.Tests.{le-cases, some-none}
+use Rattle.rules.specs.Lent.{Share, Lent, Ledger, closeRefusal, movedOn, standing}
 use Rattle.rules.proofs.Biased.{owed, ledger-biased}
-use Rattle.rules.proofs.StepByList.{close-by-list, close-below, owing-by-list}
+use Rattle.rules.proofs.Filtered.{IsPart}
+use Rattle.rules.proofs.Earliest.{ledgers-parts}
+use Rattle.rules.proofs.Taken.{unmoved}
+use Rattle.rules.proofs.StepByList.{ledger-is, moved-stands, close-unmoved, end-reached}
 use Rattle.card.specs.Values as code
 use Rattle.ledger.specs.Values.{ledgerOf, stored, codeOf}
 use Rattle.ledger.proofs.Promises.{stored-is}
-use Rattle.bank.specs.Values.{shareOf, lentOf}
+use Rattle.lines.specs.declared.Owed.the-variants.{One, Two}
+use Rattle.lines.specs.Values.{ledgersOf}
+use Rattle.bank.specs.declared.Record.{Record}
+use Rattle.bank.specs.Values.{shareOf, shareAt, lentOf}
+use Rattle.bank.proofs.Shares.{share-in, first-is, second-is}
 use Rattle.chunks.specs.declared.State.{State}
 use Rattle.chunks.specs.declared.fields.Move.the-variants.{On}
 use Rattle.chunks.specs.Values.{verdictOf}
-use Rattle.chunks.specs.Took.{tookAs, wrapped, refusedHere, shareClosed, recordClosed, endAfter, endTook, fieldTook}
-use Rattle.chunks.specs.Heard.{endedAt}
+use Rattle.chunks.specs.Took.{tookAs, wrapped, refusedHere, recordClosed, ledgersEnd, endAfter, endTook, fieldTook}
+use Rattle.chunks.specs.Heard.{owedOf, endedAt}
 use Rattle.judge.proofs.Overflow.{size-small}
 use Rattle.judge.proofs.Stands.{Stands, far-below, offset-behind}
 use Rattle.judge.proofs.StandsEntry.{in-range, paid}
@@ -43,6 +47,14 @@ stored-back b t =
     let n = suc (b .clock t) in
     rw (ledger-biased 8 (b .schedule) (b .refreshes) n, stored-is (owed 8 (b .schedule) (b .refreshes) n))
 
+one-ledger : (a : ℕ) {x : ℤ} → subℕ a 8 ≡ x → ledgersOf (One a) ≡ x ∷ []
+unfolding ledgersOf
+one-ledger a e = rw e
+
+two-ledgers : (a b : ℕ) {x y : ℤ} → subℕ a 8 ≡ x → subℕ b 8 ≡ y → ledgersOf (Two a b) ≡ x ∷ y ∷ []
+unfolding ledgersOf
+two-ledgers a b e f = rw (e, f)
+
 -- behind a good end field
 pub record Ended (st : State) (v : FileVerdict) (at : ℕ) : Type 0 where
   pub tag : st .tag ≡ 33
@@ -50,43 +62,48 @@ pub record Ended (st : State) (v : FileVerdict) (at : ℕ) : Type 0 where
   pub offset : st .offset ≡ at
   pub near : (st .commands ≤ 2 ^ 32) × (st .refreshes ≤ 2 ^ 32) × (st .offset < 2 ^ 37)
 
-early : (card : rules.Card) (past : Past) (end : ℕ) → end < standsAt past 0 → endRefusal card past end ≡ some (refusal 5 0 0)
-unfolding standsAt lastCycle endRefusal endChecks notBelow firstOf orElse unless
-early card [] end h = absurd (omega arith)
-early card (x ∷ p) end h = rw (lt-leb (x .stamp) end (omega arith))
-
 module _ {st : State} {fs : List Field} {past : Past} {at : ℕ} (s : Stands st fs past at) (w : cardWhole fs ≡ true) where
-  closed-by : (end : ℕ) → closeRefusal (lentOf (st .rec)) end ≡ endRefusal (cardOf fs) past end
-  closed-by end = rw (s .lent) (⊎-elim
-      (λ (p : (standsAt past 0 ≤ end) × (leb (standsAt past 0) end ≡ true)).
-      close-by-list (cardOf fs) past 0 (in-range s w) (s .taken) (paid s w) end (p .0))
-      (λ (p : (end < standsAt past 0) × (leb (standsAt past 0) end ≡ false)).
-      close-below (cardOf fs) past 0 (in-range s w) (s .taken) (paid s w) end (p .0) ∙ sym (early (cardOf fs) past end (p .0)))
-      (le-cases (standsAt past 0) end))
+  abbrev rec : Record
+  rec = st .rec
 
-  not-early : (end : ℕ) → endRefusal (cardOf fs) past end ≡ none → standsAt past 0 ≤ end
-  not-early end n = ⊎-elim
-      (λ (p : (standsAt past 0 ≤ end) × (leb (standsAt past 0) end ≡ true)). p .0)
-      (λ (p : (end < standsAt past 0) × (leb (standsAt past 0) end ≡ false)).
-      absurd (some-none (sym n ∙ early (cardOf fs) past end (p .0))))
-      (le-cases (standsAt past 0) end)
+  closed-by : (end : ℕ) → closeRefusal (lentOf rec) end ≡ endRefusal (cardOf fs) past end
+  closed-by end = rw (s .lent) (close-unmoved (cardOf fs) past (in-range s w) (s .taken) end)
 
-  ledger-is : ledgerOf (st .rec .share .ledger) ≡ standing (cardOf fs) past 0 .share .ledger
-  unfolding lentOf shareOf
-  ledger-is = ap (λ (l : Lent). l .share .ledger) (s .lent)
+  -- a part's ledger at E, of the record and over the list
+  abbrev movedTo : (p end : ℕ) → Ledger
+  movedTo p end = movedOn (code.cardOf (rec .card)) (ledgerOf (shareAt rec p .ledger)) end
 
-  -- the ledger at E, as it is stored
-  owed-is : (end : ℕ) → endRefusal (cardOf fs) past end ≡ none →
-      subℕ (codeOf (movedOn (code.cardOf (st .rec .card)) (ledgerOf (st .rec .share .ledger)) end) .owed) 8 ∷ [] ≡ ledgersAt (cardOf fs) past end
-  unfolding codeOf ledgersAt booksOf
-  owed-is end n =
-      let there = owing-by-list (cardOf fs) past 0 (in-range s w) (s .taken) (paid s w) end (not-early end n) in
-      let owing : movedOn (cardOf fs) (standing (cardOf fs) past 0 .share .ledger) end .owing ≡ ledgerOn (lpddr3 .credit) (bookOf (cardOf fs) past) end =
-      unfold ledgersAt booksOf in head-same there in
-      rw (s .holds .reads, ledger-is, owing) (unfold lpddr3 in ap (λ (z : ℤ). z ∷ []) (stored-back (bookOf (cardOf fs) past) end))
+  share-ledger : (p : ℕ) → p < 2 → ledgerOf (shareAt rec p .ledger) ≡ standing (cardOf fs) past unmoved .share p .ledger
+  unfolding shareOf
+  share-ledger p h = ap (λ (x : Share). x .ledger) (sym (share-in rec p h)) ∙ ap (λ (l : Lent). l .share p .ledger) (s .lent)
+
+  owing-at : (p end : ℕ) → p < 2 → IsPart (cardOf fs) p → endRefusal (cardOf fs) past end ≡ none →
+      subℕ (codeOf (movedTo p end) .owed) 8 ≡ ledgerOn (lpddr3 .credit) (bookOf (cardOf fs) (ofPart p past)) end
+  unfolding codeOf
+  owing-at p end h i n =
+      let reached = end-reached (cardOf fs) past (in-range s w) (s .taken) end n p i in
+      let there = moved-stands (cardOf fs) past unmoved (in-range s w) (s .taken) (paid s w) p i end reached in
+      let here = ledger-is (cardOf fs) past unmoved (in-range s w) (s .taken) (paid s w) p i in
+      rw (s .holds .reads, share-ledger p h, here, there) (unfold lpddr3 in stored-back (bookOf (cardOf fs) (ofPart p past)) end)
+
+  paired-is : rec .card .paired ≡ cardOf fs .paired
+  paired-is = unfold code.cardOf in ap (λ (c : rules.Card). c .paired) (s .holds .reads)
+
+  -- those of all parts, as they are stored
+  owed-is : (end : ℕ) → endRefusal (cardOf fs) past end ≡ none → ledgersOf (owedOf (recordClosed rec (ledgersEnd rec end))) ≡ ledgersAt (cardOf fs) past end
+  unfolding owedOf recordClosed ledgersEnd parts
+  owed-is end n = go (rec .card .paired) refl ∙ ap (λ (x : Bool). list (cond x (0 ∷ 1 ∷ []) (0 ∷ []))) paired-is ∙ sym (ledgers-parts (cardOf fs) past end)
     where
-      head-same : {a b : ℤ} → a ∷ [] ≡ b ∷ [] → a ≡ b
-      head-same e = cc
+      list : List ℕ → List ℤ
+      list ps = map (λ p. ledgerOn (lpddr3 .credit) (bookOf (cardOf fs) (ofPart p past)) end) ps
+
+      go : (x : Bool) → rec .card .paired ≡ x →
+          ledgersOf (cond x (Two (codeOf (movedTo 0 end) .owed) (cond x (codeOf (movedTo 1 end)) (rec .second .ledger) .owed)) (One (codeOf (movedTo 0 end) .owed)))
+          ≡ list (cond x (0 ∷ 1 ∷ []) (0 ∷ []))
+      go true e =
+          let second : IsPart (cardOf fs) 1 = second-is (cardOf fs) ∙ sym paired-is ∙ e in
+          two-ledgers _ _ (owing-at 0 end (omega arith) (first-is (cardOf fs)) n) (owing-at 1 end (omega arith) second n)
+      go false e = one-ledger _ (owing-at 0 end (omega arith) (first-is (cardOf fs)) n)
 
   module _ (f : Field) (form : RightForm (begun past) fs f) (t : f .tag ≡ 33) where
     pub of-end : fieldTook st f ≡ endTook st f
@@ -105,7 +122,7 @@ module _ {st : State} {fs : List Field} {past : Past} {at : ℕ} (s : Stands st 
     unfolding endAfter
     end-stands n = record {
       tag = refl;
-      says = unfold verdictOf endedAt recordClosed shareClosed acceptedAt in rw (s .commands, s .refreshes, owed-is (endOf f) n);
+      says = unfold verdictOf endedAt acceptedAt in rw (s .commands, s .refreshes, owed-is (endOf f) n);
       offset = there;
       near = let b = far-below s in (b .0, b .1, omega (arith, there, s .offset, b .2, size-small fs f form (omega arith)));
     }

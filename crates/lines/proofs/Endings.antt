@@ -12,7 +12,7 @@ use Rattle.rules.specs.Commands.{Command, Kind, NOP, MRW, MRR, REFPB, REFAB, AC
 use Rattle.rules.specs.Past.{bankAt}
 use Rattle.rules.specs.Bits.{bits, on}
 use Rattle.rules.specs.Pins.{kindAt, ofKind, decode}
-use Rattle.rules.specs.Levels.{plain, awake, stays, risesFrom, readAt, readPins}
+use Rattle.rules.specs.Levels.{plain, awake, stays, risesFrom, readAt, readPins, readAs}
 use Rattle.rules.specs.Entries as entries
 use Rattle.rules.specs.Lines.{nameOf, showsBank, decimal}
 use Rattle.rules.proofs.Tests.{both-true, lt-cases, nowhere}
@@ -101,8 +101,8 @@ abbrev keyOn : ℕ → ℕ
 keyOn p = 2 * code (kindAt (p % 1024)) + p / 1024 % 2
 
 -- awake, clock-enable is high and nothing stands above it
-awake-plain : (p : ℕ) → p / 1048576 ≡ 2 → (sleeps : Bool) → readPins sleeps awake p ≡ plain (decode p)
-unfolding readPins readAt on bits
+awake-plain : (p : ℕ) → p / 1048576 ≡ 2 → (sleeps : Bool) → readAs sleeps false awake p ≡ plain (decode p)
+unfolding readAs readPins readAt on bits
 awake-plain p high false = refl
 awake-plain p high true = rw (eq-eqb (p / 4194304) 0 (omega arith), eq-eqb (p / 2097152 % 2) 1 (omega arith))
 

@@ -1,7 +1,7 @@
 -- A line from parts that are put over one another, and the lines of entries that stand one behind the other, one more at a time.
 use Prim.Native.Nat.{ℕ, zero, suc, _+_, _*_, _-_, _%_, _^_, _≤_, _<_}
 use mathlib.Core.Path.{_≡_, refl, sym, ap, _∙_}
-use mathlib.Core.Bool.{Bool, true, false, _||_}
+use mathlib.Core.Bool.{Bool, true, false, cond, _||_}
 use mathlib.Core.List.{List, _++_, append-assoc, append-nil}
 use native.Mathlib.Numerals.{add-one}
 use native.Mathlib.Omega.{arith}
@@ -11,7 +11,8 @@ use lib.Seq.{drop-drop}
 use borrow.Author.Tests.{leb-false, eqb-false}
 use Rattle.rules.specs.Commands.{Command}
 use Rattle.rules.specs.Pins.{decode}
-use Rattle.rules.specs.Levels.{Level, awake, powerDown, selfRefresh, deep, Move, levelAfter, Read, plain, readPins}
+use Rattle.rules.specs.Levels.{Level, awake, powerDown, selfRefresh, deep, Move, levelAfter, Read, plain, readAs}
+use Rattle.rules.specs.Whose.{Whose, whose, isOf, partOf}
 use Rattle.rules.specs.Entries.{commandOf, recordedAs, moveOf}
 use Rattle.pins.specs.declared.Front.{Front}
 use Rattle.pins.specs.Counter.{counterOn}
@@ -21,8 +22,8 @@ use Rattle.lines.specs.declared.runs.Next.{Next}
 use Rattle.lines.specs.declared.stamps.Lead.{Lead}
 use Rattle.lines.specs.Written.{Put}
 use Rattle.lines.specs.Quick.{lastFour, highAt, levelWith, LeadGood, TailFits, tailPart, TailOn}
-use Rattle.lines.specs.Runs.{Standing, standing, standingAfter, standingOf, lineOn, lineAt, nextAt, linesAt, standsAt, Added}
-use Rattle.lines.proofs.Puts.{then, over, under, within, put-size}
+use Rattle.lines.specs.Runs.{Standing, standing, counterFor, counterIf, standingAfter, standingOf, lineOn, nextOn, lineAt, nextAt, linesAt, standsAt, Added}
+use Rattle.lines.proofs.Puts.{then, put-nothing, over, under, within, put-size}
 use Rattle.lines.proofs.Leading.{lead-digits}
 use Rattle.lines.proofs.Joined.{quick-joined}
 
@@ -57,113 +58,127 @@ quick-put lead four tail mark {at} {p} {q} {r} {old} {m} room good four-long fit
     let n : length (four ++ tailPart tail mark) ≡ 4 + getD tail 0 0 = rw (length-append, length-drop, length-set) (omega (arith, fits .long)) in
     (rw append-assoc (over (lead .size) (omega arith) (omega arith) (omega arith) a (x .0)), omega arith)
 
-neither : (a b : Bool) → (a || b) ≡ false → (a ≡ false) × (b ≡ false)
-neither false b e = (refl, e)
-neither true b e = absurd (let z : _≡_ {A = ℕ} 0 1 = cc in omega arith)
+both-false : (a b : Bool) → (a || b) ≡ false → (a ≡ false) × (b ≡ false)
+both-false false b e = (refl, e)
+both-false true b e = absurd (let z : _≡_ {A = ℕ} 0 1 = cc in omega arith)
 
 -- what the test tells that lets a line be put by its parts
 pub quick-test : (lead : Lead) (stamp rest : ℕ) (tail : List ℕ) → LeadGood lead → (rest + lead .base) % 2 ^ 32 ≡ stamp
     → (leb 10000 rest || eqb (getD tail 0 0) 0) ≡ false
     → (rest < 10000) × (0 < getD tail 0 0) × (stamp ≡ lead .base + rest)
 quick-test lead stamp rest tail good e t =
-    let (m, n) = neither (leb 10000 rest) (eqb (getD tail 0 0) 0) t in
+    let (m, n) = both-false (leb 10000 rest) (eqb (getD tail 0 0) 0) t in
     let h = leb-false 10000 rest m in
     let s = eqb-false (getD tail 0 0) 0 n in
     let u = good .upto in
     (h, omega arith, omega arith)
 
--- awake alone pins have a tail
-pub high-awake : (high : ℕ) → high ≡ highAt (levelWith high) → high < 4096 → (levelWith high ≡ awake) × (high ≡ 2)
-high-awake high e h = go (levelWith high) e
+-- the one part alone has a tail, and awake
+pub high-awake : (paired : Bool) (high : ℕ) → high ≡ highAt paired (levelWith high) → high < 4096 → (paired ≡ false) × (levelWith high ≡ awake) × (high ≡ 2)
+high-awake paired high e h = go paired (levelWith high) e
   where
-    go : (l : Level) → high ≡ highAt l → (l ≡ awake) × (high ≡ 2)
-    go awake e = (refl, unfold highAt in e)
-    go powerDown e = absurd (never (unfold highAt in e))
+    go : (d : Bool) (l : Level) → high ≡ highAt d l → (d ≡ false) × (l ≡ awake) × (high ≡ 2)
+    go false awake e = (refl, refl, unfold highAt in e)
+    go true awake e = absurd (never (unfold highAt in e))
+      where
+        never : high ≡ 4099 → ⊥
+        never e = omega arith
+    go d powerDown e = absurd (never (unfold highAt in e))
       where
         never : high ≡ 4096 → ⊥
         never e = omega arith
-    go selfRefresh e = absurd (never (unfold highAt in e))
+    go d selfRefresh e = absurd (never (unfold highAt in e))
       where
         never : high ≡ 4097 → ⊥
         never e = omega arith
-    go deep e = absurd (never (unfold highAt in e))
+    go d deep e = absurd (never (unfold highAt in e))
       where
         never : high ≡ 4098 → ⊥
         never e = omega arith
 
 -- the level that was kept
-level-back : (l : Level) → levelWith (highAt l) ≡ l
+level-back : (d : Bool) (l : Level) → levelWith (highAt d l) ≡ l
 unfolding levelWith highAt
-level-back awake = refl
-level-back powerDown = refl
-level-back selfRefresh = refl
-level-back deep = refl
+level-back false awake = refl
+level-back true awake = refl
+level-back d powerDown = refl
+level-back d selfRefresh = refl
+level-back d deep = refl
 
-pub level-kept : (high : ℕ) (l : Level) → high ≡ highAt l → (levelWith high ≡ l) × (high ≡ highAt (levelWith high))
-level-kept high l e = let k = ap levelWith e ∙ level-back l in (k, e ∙ ap highAt (sym k))
+pub level-kept : (paired : Bool) (high : ℕ) (l : Level) → high ≡ highAt paired l → (levelWith high ≡ l) × (high ≡ highAt paired (levelWith high))
+level-kept d high l e = let k = ap levelWith e ∙ level-back d l in (k, e ∙ ap (highAt d) (sym k))
 
 -- ---- what it is, and what stands behind it
-pub after-line : (r : Read) (l : Level) (n : ℕ) {l′ : Level} {n′ : ℕ} {c : Command} {m : Move} → c ≡ recordedAs r → m ≡ moveOf r → l′ ≡ levelAfter m l → n′ ≡ counterOn c m n
-    → standing l′ n′ ≡ standingAfter r (standing l n)
-unfolding standingAfter
-after-line r l n a b c d = rw (c, d, a, b)
+pub after-any : (w : Whose) (r : Read) (x : Standing) {l : Level} {n k : ℕ} {c : Command} {m : Move} → c ≡ recordedAs r → m ≡ moveOf r
+    → l ≡ levelAfter m (x .level) → n ≡ cond (isOf 0 w) (counterOn c m (x .counter)) (x .counter) → k ≡ cond (isOf 1 w) (counterOn c m (x .second)) (x .second)
+    → standing l n k ≡ standingAfter w r x
+unfolding standingAfter counterIf
+after-any w r x a b c d e = rw (c, d, e, a, b)
 
-module _ (sleeps : Bool) (l : Level) (p n : ℕ) {tail : List ℕ} {mark : ℕ} (up : l ≡ awake) (t : TailOn p tail mark) where
-  quick-read : readPins sleeps l p ≡ plain (decode p)
-  quick-read = rw up (t .reads sleeps)
+module _ (sleeps paired : Bool) (l : Level) (p n k : ℕ) {tail : List ℕ} {mark : ℕ} (one : paired ≡ false) (up : l ≡ awake) (t : TailOn p tail mark) where
+  quick-read : readAs sleeps paired l p ≡ plain (decode p)
+  quick-read = rw (one, up) (t .reads sleeps)
 
   pub quick-line : (lead : Lead) (rest : ℕ) → LeadGood lead → rest < 10000
-      → take (lead .size) (lead .text) ++ lastFour rest ++ tailPart tail mark ≡ lineOn sleeps (lead .base + rest) p (standing l n)
-  unfolding recordedAs
+      → take (lead .size) (lead .text) ++ lastFour rest ++ tailPart tail mark ≡ lineOn sleeps paired (lead .base + rest) p (standing l n k)
+  unfolding recordedAs whose counterFor partOf
   quick-line lead rest good h =
-      rw (lead-digits lead rest good h, quick-read) (quick-joined (lead .base + rest) (commandOf (decode p)) n _ (t .good .text n))
+      rw (lead-digits lead rest good h, quick-read, one) (quick-joined (lead .base + rest) (commandOf (decode p)) n _ (t .good .text n))
 
-  pub quick-after : standing l n ≡ standingAfter (readPins sleeps l p) (standing l n)
-  unfolding standingAfter recordedAs moveOf levelAfter
-  quick-after = rw (quick-read, t .good .still n)
+  pub quick-after : standing l n k ≡ nextOn sleeps paired p (standing l n k)
+  unfolding standingAfter counterIf isOf whose recordedAs moveOf levelAfter
+  quick-after = rw (quick-read, one, t .good .still n)
 
 -- ---- many
-module _ (sleeps : Bool) where
-  lines-more : (i : ℕ) (x : Standing) (bs : List ℕ) → linesAt sleeps i x bs ++ lineAt sleeps (standsAt sleeps i x bs) (drop (10 * i) bs) ≡ linesAt sleeps (suc i) x bs
-  unfolding linesAt standsAt
-  lines-more zero x bs = sym (append-nil (lineAt sleeps x bs))
-  lines-more (suc i) x bs =
-      let y = nextAt sleeps x bs in
-      let e : 10 * suc i ≡ 10 + 10 * i = omega arith in
-      append-assoc (lineAt sleeps x bs) (linesAt sleeps i y (drop 10 bs)) _
-      ∙ ap (λ (l : List ℕ). lineAt sleeps x bs ++ l) (rw (e, ← drop-drop (10 * i) 10 bs) (lines-more i y (drop 10 bs)))
+module _ (sleeps paired : Bool) where
+  abbrev line : Standing → List ℕ → List ℕ
+  line = lineAt sleeps paired
 
-  stands-more : (i : ℕ) (x : Standing) (bs : List ℕ) → nextAt sleeps (standsAt sleeps i x bs) (drop (10 * i) bs) ≡ standsAt sleeps (suc i) x bs
+  abbrev next : Standing → List ℕ → Standing
+  next = nextAt sleeps paired
+
+  lines-more : (i : ℕ) (x : Standing) (bs : List ℕ)
+      → linesAt sleeps paired i x bs ++ line (standsAt sleeps paired i x bs) (drop (10 * i) bs) ≡ linesAt sleeps paired (suc i) x bs
+  unfolding linesAt standsAt
+  lines-more zero x bs = sym (append-nil (line x bs))
+  lines-more (suc i) x bs =
+      let y = next x bs in
+      let e : 10 * suc i ≡ 10 + 10 * i = omega arith in
+      append-assoc (line x bs) (linesAt sleeps paired i y (drop 10 bs)) _
+      ∙ ap (λ (l : List ℕ). line x bs ++ l) (rw (e, ← drop-drop (10 * i) 10 bs) (lines-more i y (drop 10 bs)))
+
+  stands-more : (i : ℕ) (x : Standing) (bs : List ℕ) → next (standsAt sleeps paired i x bs) (drop (10 * i) bs) ≡ standsAt sleeps paired (suc i) x bs
   unfolding standsAt
   stands-more zero x bs = refl
   stands-more (suc i) x bs =
       let e : 10 * suc i ≡ 10 + 10 * i = omega arith in
-      rw (e, ← drop-drop (10 * i) 10 bs) (stands-more i (nextAt sleeps x bs) (drop 10 bs))
+      rw (e, ← drop-drop (10 * i) 10 bs) (stands-more i (next x bs) (drop 10 bs))
 
   module _ (i : ℕ) (s : Standing) (bs : List ℕ) (f : Front) (read : f ≡ frontOf (take 10 (drop (10 * i) bs))) (room : 10 * i + 10 ≤ length bs) where
     there : f ≡ frontOf (drop (10 * i) bs)
     there = read ∙ front-first (drop (10 * i) bs) (rw length-drop (omega arith))
 
-    line-there : (x : Standing) → lineOn sleeps (f .stamp) (f .pins) x ≡ lineAt sleeps x (drop (10 * i) bs)
+    line-there : (x : Standing) → lineOn sleeps paired (f .stamp) (f .pins) x ≡ line x (drop (10 * i) bs)
     unfolding lineAt
-    line-there x = ap (λ (z : Front). lineOn sleeps (z .stamp) (z .pins) x) there
+    line-there x = ap (λ (z : Front). lineOn sleeps paired (z .stamp) (z .pins) x) there
 
-    next-there : (x : Standing) → standingAfter (readPins sleeps (x .level) (f .pins)) x ≡ nextAt sleeps x (drop (10 * i) bs)
+    next-there : (x : Standing) → nextOn sleeps paired (f .pins) x ≡ next x (drop (10 * i) bs)
     unfolding nextAt
-    next-there x = ap (λ (z : Front). standingAfter (readPins sleeps (x .level) (z .pins)) x) there
+    next-there x = ap (λ (z : Front). nextOn sleeps paired (z .pins) x) there
 
-    pub lines-next : {x y : Next} {old mid new : List ℕ} → Put 0 (linesAt sleeps i s bs) old mid (x .at) → standingOf x ≡ standsAt sleeps i s bs → Added sleeps x (f .stamp) (f .pins) mid new y
-        → Put 0 (linesAt sleeps (i + 1) s bs) old new (y .at) × (standingOf y ≡ standsAt sleeps (i + 1) s bs)
+    pub lines-next : {x y : Next} {old mid new : List ℕ} → Put 0 (linesAt sleeps paired i s bs) old mid (x .at) → standingOf x ≡ standsAt sleeps paired i s bs
+        → Added sleeps paired x (f .stamp) (f .pins) mid new y
+        → Put 0 (linesAt sleeps paired (i + 1) s bs) old new (y .at) × (standingOf y ≡ standsAt sleeps paired (i + 1) s bs)
     lines-next {x} {y} {old} {mid} {new} p c a =
-        let line : Put (x .at) (lineAt sleeps (standsAt sleeps i s bs) (drop (10 * i) bs)) mid new (y .at) = rw (line-there (standingOf x), c) at (a .line) in (
-          rw (add-one i, ← lines-more i s bs) (then (omega arith) p line),
+        let put : Put (x .at) (line (standsAt sleeps paired i s bs) (drop (10 * i) bs)) mid new (y .at) = rw (line-there (standingOf x), c) at (a .line) in (
+          rw (add-one i, ← lines-more i s bs) (then (omega arith) p put),
           a .stands ∙ next-there (standingOf x) ∙ rw (add-one i, ← stands-more i s bs, c),
         )
 
-  pub lines-none : (x : Standing) (bs old : List ℕ) → Put 0 (linesAt sleeps 0 x bs) old old 0
+  pub lines-none : (x : Standing) (bs old : List ℕ) → Put 0 (linesAt sleeps paired 0 x bs) old old 0
   unfolding linesAt
-  lines-none x bs old = record { behind = omega arith; memory = refl }
+  lines-none x bs old = put-nothing
 
-  pub stands-none : (x : Standing) (bs : List ℕ) → x ≡ standsAt sleeps 0 x bs
+  pub stands-none : (x : Standing) (bs : List ℕ) → x ≡ standsAt sleeps paired 0 x bs
   unfolding standsAt
   stands-none x bs = refl

@@ -11,7 +11,7 @@ entry-lines-says w = entry-lines.clauses (w .𝓤) (w .H) (w .𝓖 .A) (w .𝓜 
 pub entry-lines-determined : Determined entry-lines.ended entry-lines-says
 entry-lines-determined =
     determined entry-lines.ended entry-lines-says (λ κs a r e. fact-of _)
-    (λ κs a r r′ ws ws′ p p′. let one = one-lined p p′ in (one .0, λ i. (one .1 i, (tt, (tt, (tt, (tt, (tt, tt))))))))
+    (λ κs a r r′ ws ws′ p p′. let one = one-lined p p′ in (one .0, λ i. (one .1 i, (tt, (tt, (tt, (tt, (tt, (tt, (tt, tt))))))))))
 
 abbrev accepted-line-says : Promise accepted-line.ended
 accepted-line-says w = accepted-line.clauses (w .𝓤) (w .H) (w .𝓖 .A) (w .𝓜 .mem) (w .𝓡 .run)

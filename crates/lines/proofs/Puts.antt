@@ -1,8 +1,8 @@
 -- A text at a place of a list: one behind another is one text, and the other bytes stay.
 use Prim.Native.Nat.{ℕ, suc, _+_, _-_, _≤_, _<_}
 use mathlib.Core.Path.{_≡_, sym, ap, _∙_}
-use mathlib.Core.List.{List, [], _∷_, _++_, append-assoc}
-use native.Mathlib.Nat.{add-assoc, zero-add, suc-add}
+use mathlib.Core.List.{List, [], _∷_, _++_, append-assoc, append-nil}
+use native.Mathlib.Nat.{add-assoc, add-zero, zero-add, suc-add}
 use native.Mathlib.Numerals.{add-one}
 use native.Mathlib.Omega.{arith}
 use lib.ListN.{length, take, drop, set, length-append, length-drop, length-set, take-append-drop}
@@ -105,6 +105,9 @@ then {at} {a} {b} {old} h x y = record {
 
 pub put-as : {at : ℕ} {text line old new : List ℕ} {r : ℕ} → text ≡ line → Put at text old new r → Put at line old new r
 put-as e x = rw (← e) x
+
+pub put-nothing : {at : ℕ} {old : List ℕ} → Put at [] old old at
+put-nothing {at} {old} = record { behind = rw add-zero; memory = rw (append-nil, add-zero, take-append-drop) }
 
 pub put-size : {at : ℕ} {a old new : List ℕ} {r : ℕ} → at + length a ≤ length old → Put at a old new r → length new ≡ length old
 put-size {at} {a} {old} h x = rw (x .memory, length-append, length-front at a old (omega arith), length-drop) (omega arith)

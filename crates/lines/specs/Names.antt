@@ -10,12 +10,12 @@ use Rattle.lines.specs.declared.names.Face.{Face}
 use Rattle.lines.specs.declared.names.Shown.{Shown}
 use Rattle.lines.specs.declared.names.Shown.the-variants.{Bank, Dash}
 
-unfoldable pub shownPart : Shown → List ℕ
-shownPart (Bank b) = 32 ∷ decimal b
-shownPart Dash = 32 ∷ 45 ∷ []
+unfoldable pub shownBank : Shown → List ℕ
+shownBank (Bank b) = 32 ∷ decimal b
+shownBank Dash = 32 ∷ 45 ∷ []
 
 pub record Shows (c : Command) (counter : ℕ) (face : Face) : Type 0 where
   pub fits : face .1 ≤ length (face .0)
   pub small : face .1 ≤ 6
   pub name : take (face .1) (face .0) ≡ namePart c
-  pub bank : shownPart (face .2) ≡ bankPart c counter
+  pub bank : shownBank (face .2) ≡ bankPart c counter

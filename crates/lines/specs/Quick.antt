@@ -1,13 +1,13 @@
 -- The parts of a line that is written without decoding its command.
 use Prim.Native.Nat.{ℕ, _+_, _*_, _-_, _/_, _%_, _≤_, _<_}
 use mathlib.Core.Path.{_≡_}
-use mathlib.Core.Bool.{Bool, cond}
+use mathlib.Core.Bool.{Bool, false, cond}
 use mathlib.Core.List.{List, [], _∷_, _++_}
 use lib.Dec.{leb, eqb}
 use lib.ListN.{length, getD, take, drop, set}
 use Rattle.rules.specs.Commands.{Command}
 use Rattle.rules.specs.Pins.{decode}
-use Rattle.rules.specs.Levels.{Level, awake, powerDown, selfRefresh, deep, stays, plain, readPins}
+use Rattle.rules.specs.Levels.{Level, awake, powerDown, selfRefresh, deep, stays, plain, readAs}
 use Rattle.rules.specs.Entries.{commandOf}
 use Rattle.rules.specs.Lines.{decimal}
 use Rattle.pins.specs.Counter.{counterOn}
@@ -69,17 +69,18 @@ pub record TailGood (c : Command) (tail : List ℕ) (mark : ℕ) : Type 0 where
   pub text : (counter : ℕ) → tailPart tail mark ≡ namePart c ++ bankPart c counter ++ (10 ∷ [])
   pub still : (counter : ℕ) → counterOn c stays counter ≡ counter
 
--- what the pins from CS_n up must be for a tail: clock enable high and CS_n low, awake; no pins have any of the others. The level is told by it
-unfoldable pub highAt : Level → ℕ
-highAt awake = 2
-highAt powerDown = 4096
-highAt selfRefresh = 4097
-highAt deep = 4098
+-- what the pins from CS_n up must be for a tail: clock enable high and CS_n low, where the one part is awake; no pins have any of the others. The level is told
+-- by it
+unfoldable pub highAt : (paired : Bool) → Level → ℕ
+highAt d awake = cond d 4099 2
+highAt d powerDown = 4096
+highAt d selfRefresh = 4097
+highAt d deep = 4098
 
 unfoldable pub levelWith : ℕ → Level
 levelWith h = cond (eqb h 4096) powerDown (cond (eqb h 4097) selfRefresh (cond (eqb h 4098) deep awake))
 
--- it is that of the command on the pins, and awake they are read as that command
+-- it is that of the command on the pins, and the one part, awake, reads them as that command
 pub record TailOn (p : ℕ) (tail : List ℕ) (mark : ℕ) : Type 0 where
-  pub reads : (sleeps : Bool) → readPins sleeps awake p ≡ plain (decode p)
+  pub reads : (sleeps : Bool) → readAs sleeps false awake p ≡ plain (decode p)
   pub good : TailGood (commandOf (decode p)) tail mark

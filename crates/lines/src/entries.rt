@@ -2,9 +2,9 @@
 ghost use mathlib.Core.List.{_++_};
 ghost use Prim.Native.Nat.{_+_, _≤_};
 ghost use lib.ListN.{length};
-ghost use Rattle.rules.specs.Lines.{entryLine};
-ghost use Rattle.pins.specs.Values.{commandOf};
-ghost use Rattle.lines.specs.Names.{shownPart};
+ghost use Rattle.rules.specs.Lines.{entryLine, shownPart};
+ghost use Rattle.pins.specs.Values.{commandOf, whoseOf};
+ghost use Rattle.lines.specs.Names.{shownBank};
 ghost use Rattle.lines.specs.Parts.{namePart, bankPart};
 ghost use Rattle.lines.specs.Written.{Put};
 use crate::names::Shown;
@@ -13,10 +13,11 @@ use crate::numbers::put_next;
 use crate::numbers::put_number;
 use crate::text::put_text;
 use pins::Command;
+use pins::Whose;
 
 fn put_shown(out: &mut [u8], at: usize, shown: Shown) -> usize
     requires { ⌜ at + 4 ≤ length (now out) ⌝ }
-    ensures memory { λ r. ⌜ Put at (shownPart shown) (now (out .entry)) (now (out .exit)) r ⌝ }
+    ensures memory { λ r. ⌜ Put at (shownBank shown) (now (out .entry)) (now (out .exit)) r ⌝ }
     ensures small { λ r. ⌜ r ≤ at + 4 ⌝ }
 {
     match shown {
@@ -38,12 +39,34 @@ fn put_command(out: &mut [u8], at: usize, command: Command, counter: u8) -> usiz
     put_shown(out, named, shown)
 }
 
-pub fn put_line(out: &mut [u8], at: usize, stamp: u32, command: Command, counter: u8) -> usize
+// Nothing where there is one part.
+fn put_part(out: &mut [u8], at: usize, whose: Whose) -> usize
+    requires { ⌜ at + 2 ≤ length (now out) ⌝ }
+    ensures memory { λ r. ⌜ Put at (shownPart (whoseOf whose)) (now (out .entry)) (now (out .exit)) r ⌝ }
+    ensures small { λ r. ⌜ r ≤ at + 2 ⌝ }
+{
+    match whose {
+        Whose::Sole => at,
+        Whose::First => put_text(out, at, b" 0"),
+        Whose::Second => put_text(out, at, b" 1"),
+        Whose::Neither => put_text(out, at, b" -"),
+    }
+}
+
+pub fn put_line(
+    out: &mut [u8],
+    at: usize,
+    stamp: u32,
+    command: Command,
+    whose: Whose,
+    counter: u8,
+) -> usize
     requires { ⌜ at + 64 ≤ length (now out) ⌝ }
-    ensures memory { λ r. ⌜ Put at (entryLine stamp (commandOf command) counter) (now (out .entry)) (now (out .exit)) r ⌝ }
+    ensures memory { λ r. ⌜ Put at (entryLine stamp (commandOf command) (whoseOf whose) counter) (now (out .entry)) (now (out .exit)) r ⌝ }
     ensures small { λ r. ⌜ r ≤ at + 24 ⌝ }
 {
     let stamped = put_number(out, at, stamp as u64);
     let shown = put_command(out, stamped, command, counter);
-    put_text(out, shown, b"\n")
+    let told = put_part(out, shown, whose);
+    put_text(out, told, b"\n")
 }

@@ -28,11 +28,14 @@ pub fn lead_of(number: u32) -> Lead
     }
 }
 
-// That of this stamp, where it has one and its ten thousand numbers are all below 2^32.
+// That of this stamp, where it has one and its ten thousand numbers are all below 2^32. Most often it is the same.
 pub fn renewed(lead: Lead, stamp: u32) -> Lead
     requires { ⌜ LeadGood lead ⌝ }
     ensures { λ r. ⌜ LeadGood r ⌝ }
 {
+    if stamp / 10000 * 10000 == lead.base {
+        return lead;
+    }
     if stamp < 10000 {
         return lead;
     }

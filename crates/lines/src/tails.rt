@@ -41,12 +41,17 @@ fn tail_at(key: u32) -> [u8; 8]
     }
 }
 
-// What the pins from CS_n up are where there is a tail.
-pub fn high_of(level: Level) -> u32
-    ensures { λ r. ⌜ r ≡ highAt (levelOf level) ⌝ }
+// What the pins from CS_n up are where there is a tail. Two parts have none.
+pub fn high_of(paired: bool, level: Level) -> u32
+    ensures { λ r. ⌜ r ≡ highAt paired (levelOf level) ⌝ }
 {
     match level {
-        Level::Awake => 2,
+        Level::Awake => {
+            if paired {
+                return 4099;
+            }
+            2
+        }
         Level::PowerDown => 4096,
         Level::SelfRefresh => 4097,
         Level::Deep => 4098,

@@ -1,12 +1,12 @@
 // The line of the verdict.
-ghost use mathlib.Core.List.{[], _∷_};
 ghost use Prim.Native.Nat.{_+_, _≤_};
-ghost use lib.IntN.{subℕ};
 ghost use lib.ListN.{length};
 ghost use Rattle.rules.specs.File.{accepted, refused};
-ghost use Rattle.rules.specs.Lines.{verdictLine};
+ghost use Rattle.rules.specs.Lines.{ledgerParts, verdictLine};
 ghost use Rattle.lines.specs.Parts.{owedPart};
+ghost use Rattle.lines.specs.Values.{ledgersOf};
 ghost use Rattle.lines.specs.Written.{Put, Written};
+use crate::Owed;
 use crate::numbers::put_next;
 use crate::numbers::put_number;
 use crate::text::put_text;
@@ -23,10 +23,25 @@ fn put_owed(out: &mut [u8], at: usize, owed: u8) -> usize
     put_next(out, at, (owed - 8) as u64)
 }
 
-// The line of a file that is accepted, at the start of `out`, and how many bytes it has; `owed` is the ledger with 8 added. Where `out` has under 64 bytes of room
-// nothing is written and the answer is 0.
-pub fn accepted_line(out: &mut [u8], commands: u64, refreshes: u64, owed: u8) -> usize
-    ensures { λ r. ⌜ Written (verdictLine (accepted commands refreshes (subℕ owed 8 ∷ []))) (now (out .entry)) (now (out .exit)) r ⌝ }
+// The first part's before the second's.
+fn put_ledgers(out: &mut [u8], at: usize, owed: Owed) -> usize
+    requires { ⌜ at + 8 ≤ length (now out) ⌝ }
+    ensures memory { λ r. ⌜ Put at (ledgerParts (ledgersOf owed)) (now (out .entry)) (now (out .exit)) r ⌝ }
+    ensures small { λ r. ⌜ r ≤ at + 8 ⌝ }
+{
+    match owed {
+        Owed::One(only) => put_owed(out, at, only),
+        Owed::Two(first, second) => {
+            let behind = put_owed(out, at, first);
+            put_owed(out, behind, second)
+        }
+    }
+}
+
+// The line of a file that is accepted, at the start of `out`, and how many bytes it has. Where `out` has under 64 bytes of room nothing is written and the answer
+// is 0.
+pub fn accepted_line(out: &mut [u8], commands: u64, refreshes: u64, owed: Owed) -> usize
+    ensures { λ r. ⌜ Written (verdictLine (accepted commands refreshes (ledgersOf owed))) (now (out .entry)) (now (out .exit)) r ⌝ }
 {
     if out.len() < 64 {
         return 0;
@@ -34,7 +49,7 @@ pub fn accepted_line(out: &mut [u8], commands: u64, refreshes: u64, owed: u8) ->
     let verdict = put_text(out, 0, b"accepted ");
     let first = put_number(out, verdict, commands);
     let second = put_next(out, first, refreshes);
-    let third = put_owed(out, second, owed);
+    let third = put_ledgers(out, second, owed);
     put_text(out, third, b"\n")
 }
 

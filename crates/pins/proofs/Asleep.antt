@@ -7,7 +7,7 @@ use native.Mathlib.Omega.{arith}
 use borrow.Author.Tests.{eq-eqb, ne-eqb}
 use Rattle.rules.specs.Bits.{bits, on, bit}
 use Rattle.rules.specs.Pins.{byLevels, kindAt, decode, wrongBits}
-use Rattle.rules.specs.Levels.{Level, awake, powerDown, selfRefresh, deep, depth, sameLevel, falls, Read, plain, moved, barred, fallBy, readAt, readPins}
+use Rattle.rules.specs.Levels.{Level, awake, powerDown, selfRefresh, deep, depth, sameLevel, falls, Read, plain, moved, barred, fallBy, readAt, readPins, readPair, readAs}
 use Rattle.rules.proofs.Fields.{as-bit}
 
 -- by the number of these three levels
@@ -45,19 +45,27 @@ fall-by p =
     let low : p % 8 ≡ x % 8 = omega arith in
     rw (low, low-three x, as-bit x 0, as-bit x 1, as-bit x 2) (by-levels (on x 0) (on x 1) (on x 2) (on x 3) (on x 4))
 
--- ---- where a card has low clock-enable, and where it has not
+-- ---- where a card has low clock-enable, two parts, or neither
 module _ (l : Level) (p : ℕ) where
-  pub by-pins : (s : Bool) → s ≡ false → readPins s l p ≡ plain (decode p)
+  pub high-bits : (p / 4194304 ≡ 0 → ⊥) → readPins true l p ≡ plain wrongBits
   unfolding readPins
-  by-pins s e = rw e
+  high-bits h = rw (ne-eqb (p / 4194304) 0 h)
 
-  pub high-bits : (s : Bool) → s ≡ true → (p / 4194304 ≡ 0 → ⊥) → readPins s l p ≡ plain wrongBits
+  pub by-level : p / 4194304 ≡ 0 → readPins true l p ≡ readAt l p
   unfolding readPins
-  high-bits s e h = rw (e, ne-eqb (p / 4194304) 0 h)
+  by-level h = rw (eq-eqb (p / 4194304) 0 h)
 
-  pub by-level : (s : Bool) → s ≡ true → p / 4194304 ≡ 0 → readPins s l p ≡ readAt l p
-  unfolding readPins
-  by-level s e h = rw (e, eq-eqb (p / 4194304) 0 h)
+  pub with-sleep : (s d : Bool) → s ≡ true → readAs s d l p ≡ readPins true l p
+  unfolding readAs
+  with-sleep s d e = rw e
+
+  pub with-pair : (s d : Bool) → s ≡ false → d ≡ true → readAs s d l p ≡ readPair p
+  unfolding readAs
+  with-pair s d e f = rw (e, f)
+
+  pub by-pins : (s d : Bool) → s ≡ false → d ≡ false → readAs s d l p ≡ plain (decode p)
+  unfolding readAs readPins
+  by-pins s d e f = rw (e, f)
 
 pub awake-only : (l : Level) → sameLevel awake l ≡ true → l ≡ awake
 unfolding sameLevel depth

@@ -6,6 +6,9 @@ pub mod Written
 pub mod Unlisted
 pub mod Rounds
 pub mod Asleep
+pub mod Selected
 pub mod Values
 pub mod Promises
+pub mod Calls
 pub mod Trips
+pub mod PartTrips

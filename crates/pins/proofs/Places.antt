@@ -1,5 +1,5 @@
 -- The code's places of numbers are those of the rules.
-use Prim.Native.Nat.{ℕ, _+_, _*_, _/_, _%_, _≤_}
+use Prim.Native.Nat.{ℕ, _+_, _*_, _/_, _%_, _≤_, _<_}
 use mathlib.Core.Path.{_≡_, refl}
 use mathlib.Core.Bool.{Bool, true, false, not, _||_}
 use native.Mathlib.Nat.{div-one}
@@ -67,6 +67,16 @@ parts-are (Rd bank column ap) = (refl, omega (arith, scatters bank .2, scatters 
 parts-are (Wr bank column ap) = (refl, omega (arith, scatters bank .2, scatters column .4, ap-bit ap), omega arith)
 parts-are (Pre bank) = (refl, omega (arith, scatters bank .2), omega arith)
 parts-are Prea = (refl, refl, omega arith)
+
+pub encode-small : (c : Command) → encode (commandOf c) < 0x80_0000
+encode-small c = rw (← parts-are c .1) (joined-small (partsOf c) (parts-are c .2))
+  where
+    ap-small : (ap : Bool) → apPin ap ≤ 1024
+    ap-small true = omega arith
+    ap-small false = omega arith
+
+    joined-small : (x : Parts) → x .fixed ≤ 0x30_0000 → joinedOf x < 0x80_0000
+    joined-small x h = omega (arith, ap-small (x .ap))
 
 -- what the tests of the writer leave, where they pass
 pub fits-when : (x : Parts) → x .bank ≤ 7 → x .row ≤ 32767 → x .column ≤ 4095 → x .column % 2 ≡ 0

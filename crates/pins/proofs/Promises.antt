@@ -1,7 +1,7 @@
 -- The promise of each public function determines its answer, and the writer's what it leaves in the buffer. `claims` is what a promise says, as a plain claim.
 use mathlib.Core.Path.{_≡_, refl, sym, _∙_}
 use Rattle.rules.proofs.Determined.{Promise, Plainly, Determined, determined, fact-of, both-of}
-use Rattle.pins.proofs.Values.{one-command, one-decoded, one-level, one-moved, one-read, one-wrote}
+use Rattle.pins.proofs.Values.{one-command, one-decoded, one-level, one-moved, one-read, one-whose, one-wrote}
 use Rattle.pins.proofs.counter.counter_after as counter-after
 use Rattle.pins.proofs.fields.entry_at as entry-at
 use Rattle.pins.proofs.fields.stamp_at as stamp-at
@@ -13,6 +13,9 @@ use Rattle.pins.proofs.levels.read_pins as read-pins
 use Rattle.pins.proofs.levels.recorded as recorded
 use Rattle.pins.proofs.levels.rises_from as rises-from
 use Rattle.pins.proofs.reader.decode as decode
+use Rattle.pins.proofs.selects.is_first as is-first
+use Rattle.pins.proofs.selects.is_second as is-second
+use Rattle.pins.proofs.selects.whose_pins as whose-pins
 use Rattle.pins.proofs.table.kind_of as kind-of
 use Rattle.pins.proofs.table.kinds as kinds
 use Rattle.pins.proofs.writer.write_entry as write-entry
@@ -71,6 +74,27 @@ is-awake-says w = is-awake.clauses (w .𝓤) (w .H) (w .𝓖 .A) (w .𝓜 .mem) 
 pub is-awake-determined : Determined is-awake.ended is-awake-says
 is-awake-determined = determined is-awake.ended is-awake-says (λ κs a r e. fact-of _) (λ κs a r r′ ws ws′ p p′. (p ∙ sym p′, refl))
 
+abbrev whose-pins-says : Promise whose-pins.ended
+whose-pins-says w = whose-pins.clauses (w .𝓤) (w .H) (w .𝓖 .A) (w .𝓜 .mem) (w .𝓡 .run)
+
+abbrev pub whose-pins-claims : Plainly whose-pins.ended whose-pins-says
+whose-pins-claims κs a r e = fact-of _
+
+pub whose-pins-determined : Determined whose-pins.ended whose-pins-says
+whose-pins-determined = determined whose-pins.ended whose-pins-says whose-pins-claims (λ κs a r r′ ws ws′ p p′. (one-whose r r′ p p′, refl))
+
+abbrev is-first-says : Promise is-first.ended
+is-first-says w = is-first.clauses (w .𝓤) (w .H) (w .𝓖 .A) (w .𝓜 .mem) (w .𝓡 .run)
+
+pub is-first-determined : Determined is-first.ended is-first-says
+is-first-determined = determined is-first.ended is-first-says (λ κs a r e. fact-of _) (λ κs a r r′ ws ws′ p p′. (p ∙ sym p′, refl))
+
+abbrev is-second-says : Promise is-second.ended
+is-second-says w = is-second.clauses (w .𝓤) (w .H) (w .𝓖 .A) (w .𝓜 .mem) (w .𝓡 .run)
+
+pub is-second-determined : Determined is-second.ended is-second-says
+is-second-determined = determined is-second.ended is-second-says (λ κs a r e. fact-of _) (λ κs a r r′ ws ws′ p p′. (p ∙ sym p′, refl))
+
 abbrev kinds-says : Promise kinds.ended
 kinds-says w = kinds.clauses (w .𝓤) (w .H) (w .𝓖 .A) (w .𝓜 .mem) (w .𝓡 .run)
 
@@ -113,5 +137,5 @@ write-entry-claims κs a r e = both-of (fact-of _) (fact-of _)
 pub write-entry-determined : Determined write-entry.ended write-entry-says
 write-entry-determined =
     determined write-entry.ended write-entry-says write-entry-claims
-    (λ κs a r r′ ws ws′ p p′. let after : ws .1 .1 .0 ≡ ws′ .1 .1 .0 = p .1 ∙ sym (p′ .1) in
-    (one-wrote r r′ (p .0) (p′ .0), λ i. (tt, (tt, (after i, tt)))))
+    (λ κs a r r′ ws ws′ p p′. let after : ws .1 .1 .1 .1 .0 ≡ ws′ .1 .1 .1 .1 .0 = p .1 ∙ sym (p′ .1) in
+    (one-wrote r r′ (p .0) (p′ .0), λ i. (tt, (tt, (tt, (tt, (after i, tt)))))))

@@ -7,8 +7,9 @@ use lib.Dec.{eqb}
 use Rattle.rules.specs.Commands as rules
 use Rattle.rules.specs.Pins as pins
 use Rattle.rules.specs.Levels as levels
+use Rattle.rules.specs.Whose as whose
 use Rattle.rules.specs.Folds.{orElse, firstOf}
-use Rattle.rules.specs.Checks.{Refusal, refusal, unless, isWrong, isReserved, isBarred}
+use Rattle.rules.specs.Checks.{Refusal, refusal, unless, isWrong, isReserved, isBarred, isClash}
 use Rattle.rules.proofs.Determined.{tells}
 use Rattle.pins.specs.declared.Command.{Command}
 use Rattle.pins.specs.declared.Command.the-variants.{Nop, Mrw, Mrr, Refpb, Refab, Act, Rd, Wr, Pre, Prea}
@@ -19,10 +20,12 @@ use Rattle.pins.specs.declared.Level.the-variants.{Awake, PowerDown, Sel
 use Rattle.pins.specs.declared.Move.{Move}
 use Rattle.pins.specs.declared.Move.the-variants.{Stays, Falls, Rises}
 use Rattle.pins.specs.declared.Read.{Read}
-use Rattle.pins.specs.declared.Read.the-variants.{Plain, Moved, Asleep, Barred}
+use Rattle.pins.specs.declared.Read.the-variants.{Plain, Moved, Asleep, Barred, Clash}
+use Rattle.pins.specs.declared.Whose.{Whose}
+use Rattle.pins.specs.declared.Whose.the-variants.{Sole, First, Second, Neither}
 use Rattle.pins.specs.declared.Wrote.{Wrote}
 use Rattle.pins.specs.declared.Wrote.the-variants.{Done, Unfit, NoRoom}
-use Rattle.pins.specs.Values.{commandOf, decodedOf, levelOf, movedOf, readOf, pinsRefusal, readRefusal, pinsFail, DecodedAs, ReadAs, refusalOf}
+use Rattle.pins.specs.Values.{commandOf, decodedOf, levelOf, movedOf, readOf, whoseOf, pinsRefusal, readRefusal, pinsFail, DecodedAs, ReadAs, refusalOf}
 
 -- the code's values, back from those of the rules
 abbrev command : rules.Command → Command
@@ -58,6 +61,12 @@ read (levels.plain d) = Plain (decoded d)
 read (levels.moved m) = Moved (moved m)
 read levels.asleep = Asleep
 read levels.barred = Barred
+read levels.clash = Clash
+
+abbrev owner : whose.Whose → Whose
+owner whose.sole = Sole
+owner (whose.part p) = cond (eqb p 0) First Second
+owner whose.neither = Neither
 
 abbrev wrote : Option Refusal → Wrote
 wrote none = Done
@@ -101,6 +110,14 @@ read-back (Plain d) = ap Plain (decoded-back d)
 read-back (Moved m) = ap Moved (moved-back m)
 read-back Asleep = refl
 read-back Barred = refl
+read-back Clash = refl
+
+owner-back : (w : Whose) → owner (whoseOf w) ≡ w
+unfolding whoseOf
+owner-back Sole = refl
+owner-back First = refl
+owner-back Second = refl
+owner-back Neither = refl
 
 wrote-back : (r : Wrote) → wrote (refusalOf r) ≡ r
 unfolding refusalOf refusal
@@ -123,22 +140,26 @@ one-moved = tells movedOf moved moved-back
 pub one-read : {z : levels.Read} (x y : Read) → readOf x ≡ z → readOf y ≡ z → x ≡ y
 one-read = tells readOf read read-back
 
+pub one-whose : {z : whose.Whose} (x y : Whose) → whoseOf x ≡ z → whoseOf y ≡ z → x ≡ y
+one-whose = tells whoseOf owner owner-back
+
 pub one-wrote : {z : Option Refusal} (x y : Wrote) → refusalOf x ≡ z → refusalOf y ≡ z → x ≡ y
 one-wrote = tells refusalOf wrote wrote-back
 
 -- ---- the refusal follows from what the pins are
 plain-told : (d : Decoded) → pinsRefusal d ≡ pinsFail (levels.plain (decodedOf d))
-unfolding decodedOf pinsRefusal pinsFail firstOf orElse unless isWrong isReserved isBarred
+unfolding decodedOf pinsRefusal pinsFail firstOf orElse unless isWrong isReserved isBarred isClash
 plain-told (Good c) = refl
 plain-told WrongBits = refl
 plain-told Reserved = refl
 
 read-told : (r : Read) → readRefusal r ≡ pinsFail (readOf r)
-unfolding readOf readRefusal pinsFail firstOf orElse unless isWrong isReserved isBarred
+unfolding readOf readRefusal pinsFail firstOf orElse unless isWrong isReserved isBarred isClash
 read-told (Plain d) = plain-told d
 read-told (Moved m) = refl
 read-told Asleep = refl
 read-told Barred = refl
+read-told Clash = refl
 
 pub decoded-as : (p : ℕ) (d : Decoded) → decodedOf d ≡ pins.decode p → DecodedAs p d
 decoded-as p d e = record { is = e; told = rw (← e) (plain-told d) }

@@ -1,6 +1,7 @@
 -- The places of numbers on the pins, in the words of the code. proofs/Places.antt holds them against the rules.
 use Prim.Native.Nat.{ℕ, _+_, _*_, _/_, _%_}
 use mathlib.Core.Bool.{Bool, false, cond, not, _&&_, _||_}
+use mathlib.Core.Option.{Option, none, some}
 use lib.Dec.{leb, eqb}
 use Rattle.rules.specs.Pins.{listedMA}
 use Rattle.pins.specs.declared.writer.Parts.{Parts}
@@ -73,3 +74,8 @@ fitsOf x =
 
 abbrev pub joinedOf : Parts → ℕ
 joinedOf x = x .fixed + maPins (x .ma) + opPins (x .op) + bankPins (x .bank) + rowPins (x .row) + columnPins (x .column) + apPin (x .ap)
+
+-- beside the pins of a command for one of two parts: the other part's CS_n, high; for none told as for part 0
+abbrev pub otherSelect : Option ℕ → ℕ
+otherSelect none = 0x40_0000
+otherSelect (some p) = cond (eqb p 0) 0x40_0000 0x10_0000

@@ -7,8 +7,9 @@ use mathlib.Core.Option.{Option, none, some}
 use Rattle.rules.specs.Commands as rules
 use Rattle.rules.specs.Pins as pins
 use Rattle.rules.specs.Levels as levels
+use Rattle.rules.specs.Whose as whose
 use Rattle.rules.specs.Folds.{firstOf}
-use Rattle.rules.specs.Checks.{Refusal, refusal, unless, isWrong, isReserved, isBarred}
+use Rattle.rules.specs.Checks.{Refusal, refusal, unless, isWrong, isReserved, isBarred, isClash}
 use Rattle.pins.specs.declared.Command.{Command}
 use Rattle.pins.specs.declared.Command.the-variants.{Nop, Mrw, Mrr, Refpb, Refab, Act, Rd, Wr, Pre, Prea}
 use Rattle.pins.specs.declared.Decoded.{Decoded}
@@ -18,7 +19,11 @@ use Rattle.pins.specs.declared.Level.the-variants.{Awake, PowerDown, Sel
 use Rattle.pins.specs.declared.Move.{Move}
 use Rattle.pins.specs.declared.Move.the-variants.{Stays, Falls, Rises}
 use Rattle.pins.specs.declared.Read.{Read}
-use Rattle.pins.specs.declared.Read.the-variants.{Plain, Moved, Asleep, Barred}
+use Rattle.pins.specs.declared.Read.the-variants.{Plain, Moved, Asleep, Barred, Clash}
+use Rattle.pins.specs.declared.Whose.{Whose}
+use Rattle.pins.specs.declared.Whose.the-variants.{Sole, First, Second, Neither}
+use Rattle.pins.specs.declared.Told.{Told}
+use Rattle.pins.specs.declared.Told.the-variants.{Nobody, Part}
 use Rattle.pins.specs.declared.Wrote.{Wrote}
 use Rattle.pins.specs.declared.Wrote.the-variants.{Done, Unfit, NoRoom}
 
@@ -55,6 +60,17 @@ readOf (Plain d) = levels.plain (decodedOf d)
 readOf (Moved m) = levels.moved (movedOf m)
 readOf Asleep = levels.asleep
 readOf Barred = levels.barred
+readOf Clash = levels.clash
+
+unfoldable pub whoseOf : Whose → whose.Whose
+whoseOf Sole = whose.sole
+whoseOf First = whose.part 0
+whoseOf Second = whose.part 1
+whoseOf Neither = whose.neither
+
+unfoldable pub toldOf : Told → Option ℕ
+toldOf Nobody = none
+toldOf (Part p) = some p
 
 -- 6 and 7 of document 01
 unfoldable pub pinsRefusal : Decoded → Option Refusal
@@ -62,16 +78,17 @@ pinsRefusal (Good c) = none
 pinsRefusal WrongBits = some (refusal 6 0 0)
 pinsRefusal Reserved = some (refusal 7 0 0)
 
--- and 16 of document 02
+-- and 16 and 24 of document 02
 unfoldable pub readRefusal : Read → Option Refusal
 readRefusal (Plain d) = pinsRefusal d
 readRefusal (Moved m) = none
 readRefusal Asleep = none
 readRefusal Barred = some (refusal 16 0 0)
+readRefusal Clash = some (refusal 24 0 0)
 
 -- the first that fails of the checks that go by what pins are read as alone
 unfoldable pub pinsFail : levels.Read → Option Refusal
-pinsFail x = firstOf (unless (not (isWrong x)) 6 ∷ unless (not (isReserved x)) 7 ∷ unless (not (isBarred x)) 16 ∷ [])
+pinsFail x = firstOf (unless (not (isWrong x)) 6 ∷ unless (not (isClash x)) 24 ∷ unless (not (isReserved x)) 7 ∷ unless (not (isBarred x)) 16 ∷ [])
 
 -- what the pins are, and the first of those checks that they fail
 pub record DecodedAs (p : ℕ) (r : Decoded) : Type 0 where

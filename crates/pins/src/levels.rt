@@ -1,6 +1,6 @@
 // Low clock-enable: what pins say at a level, what that is recorded and judged as, and the level after it.
 ghost use mathlib.Core.Path.{_≡_};
-ghost use mathlib.Core.Bool.{cond};
+ghost use mathlib.Core.Bool.{true, cond};
 ghost use Rattle.rules.specs.Bits.{bits, on};
 ghost use Rattle.rules.specs.Pins.{kindAt};
 ghost use Rattle.rules.specs.Levels as rules;
@@ -11,6 +11,7 @@ use crate::Decoded;
 use crate::Level;
 use crate::Move;
 use crate::Read;
+use crate::pairs;
 use crate::reader;
 
 fn depth(level: Level) -> u8
@@ -121,17 +122,27 @@ fn read_at(level: Level, pins: u32) -> Read
     }
 }
 
-// What these pins are at this level, where the card has low clock-enable (`sleeps`) or has not. A bit above 21 makes them wrong.
-pub fn read_pins(sleeps: bool, level: Level, pins: u32) -> Read
-    ensures { λ r. ⌜ ReadAs (rules.readPins sleeps (levelOf level) pins) r ⌝ }
+// Where the card has low clock-enable. A bit above 21 makes them wrong.
+fn read_sleeping(level: Level, pins: u32) -> Read
+    ensures { λ r. ⌜ readOf r ≡ rules.readPins true (levelOf level) pins ⌝ }
 {
-    if !sleeps {
-        return Read::Plain(reader::decode(pins));
-    }
     if pins / 4194304 != 0 {
         return Read::Plain(Decoded::WrongBits);
     }
     read_at(level, pins)
+}
+
+// What these pins are at this level, where the card has low clock-enable (`sleeps`), two parts (`paired`), or neither.
+pub fn read_pins(sleeps: bool, paired: bool, level: Level, pins: u32) -> Read
+    ensures { λ r. ⌜ ReadAs (rules.readAs sleeps paired (levelOf level) pins) r ⌝ }
+{
+    if sleeps {
+        return read_sleeping(level, pins);
+    }
+    if paired {
+        return pairs::read_pair(pins);
+    }
+    Read::Plain(reader::decode(pins))
 }
 
 // Pins that are no command are taken for NOP.
@@ -154,6 +165,7 @@ pub fn recorded(read: Read) -> Command
         Read::Moved(_) => Command::Nop,
         Read::Asleep => Command::Nop,
         Read::Barred => Command::Nop,
+        Read::Clash => Command::Nop,
     }
 }
 
@@ -187,6 +199,7 @@ pub fn judged(read: Read) -> Command
         Read::Moved(moved) => moves_as(moved),
         Read::Asleep => Command::Nop,
         Read::Barred => Command::Nop,
+        Read::Clash => Command::Nop,
     }
 }
 
@@ -198,5 +211,6 @@ pub fn move_of(read: Read) -> Move
         Read::Moved(moved) => moved,
         Read::Asleep => Move::Stays,
         Read::Barred => Move::Stays,
+        Read::Clash => Move::Stays,
     }
 }

@@ -1,9 +1,12 @@
-// The commands on the pins: decoding, the table of kinds, and the writer; the fields that hold them; low clock-enable; the round counter.
+// The commands on the pins: decoding, the table of kinds, and the writer; the fields that hold them; low clock-enable; two parts on one bus; the round counter.
 mod counter;
 mod fields;
 mod levels;
+mod pairs;
 mod reader;
+mod selects;
 mod table;
+mod telling;
 mod writer;
 
 pub use counter::counter_after;
@@ -17,6 +20,9 @@ pub use levels::read_pins;
 pub use levels::recorded;
 pub use levels::rises_from;
 pub use reader::decode;
+pub use selects::is_first;
+pub use selects::is_second;
+pub use selects::whose_pins;
 pub use table::kind_of;
 pub use table::kinds;
 pub use writer::write_entry;
@@ -57,15 +63,30 @@ pub enum Move {
     Rises(Level),
 }
 
-// What pins are at a level: what they are awake with clock-enable high, a move, an entry asleep, or what is not permitted here (16).
+// What pins are at a level: what they are awake with clock-enable high, a move, an entry asleep, what is not permitted here (16), or both CS_n low (24).
 pub enum Read {
     Plain(Decoded),
     Moved(Move),
     Asleep,
     Barred,
+    Clash,
 }
 
-// What the writer did: an entry written, or a refusal because of what the command carries (14) or for want of room (15).
+// Whose an entry is: of the one part of a trace without tag 25; of part 0; of part 1; or, with both CS_n high, NOP for both.
+pub enum Whose {
+    Sole,
+    First,
+    Second,
+    Neither,
+}
+
+// The part that the writer is told, or none.
+pub enum Told {
+    Nobody,
+    Part(u8),
+}
+
+// What the writer did: an entry written, or a refusal because of the part or of what the command carries (14) or for want of room (15).
 pub enum Wrote {
     Done,
     Unfit,

@@ -1,15 +1,18 @@
 // Writing a command as an entry field.
 ghost use mathlib.Core.Path.{_≡_};
-ghost use Prim.Native.Nat.{_≤_};
+ghost use mathlib.Core.Bool.{_&&_};
+ghost use Prim.Native.Nat.{_≤_, _<_};
 ghost use lib.ListN.{length};
 ghost use Rattle.rules.specs.Pins.{writable, encode};
-ghost use Rattle.rules.specs.Writer.{writeRefusal, written};
+ghost use Rattle.rules.specs.Writer.{toldGood, encodeFor, writeRefusal, written};
 ghost use Rattle.pins.specs.Places.{maPins, opPins, bankPins, rowPins, columnPins, apPin, registerParts, bankParts, partsOf, fitsOf, joinedOf};
-ghost use Rattle.pins.specs.Values.{commandOf, refusalOf};
+ghost use Rattle.pins.specs.Values.{commandOf, toldOf, refusalOf};
 use crate::Command;
+use crate::Told;
 use crate::Wrote;
 use crate::fields;
 use crate::reader;
+use crate::telling;
 
 // What a command puts on the pins: those that are the same for its whole kind (clock enable, CS_n, the levels from CA0r on), and its numbers, 0 where it
 // carries none.
@@ -130,7 +133,8 @@ fn ap_pin(ap: bool) -> u32
 
 fn joined(parts: Parts) -> u32
     requires { ⌜ parts .fixed ≤ 0x300000 ⌝ }
-    ensures { λ r. ⌜ r ≡ joinedOf parts ⌝ }
+    ensures value { λ r. ⌜ r ≡ joinedOf parts ⌝ }
+    ensures small { λ r. ⌜ r < 0x800000 ⌝ }
 {
     parts.fixed
         + ma_pins(parts.ma)
@@ -141,32 +145,54 @@ fn joined(parts: Parts) -> u32
         + ap_pin(parts.ap)
 }
 
-fn takes(command: Command) -> bool
-    ensures { λ r. ⌜ r ≡ writable (commandOf command) ⌝ }
+fn takes(paired: bool, told: Told, command: Command) -> bool
+    ensures { λ r. ⌜ r ≡ (toldGood paired (toldOf told) (commandOf command) && writable (commandOf command)) ⌝ }
 {
+    if !telling::told_good(paired, told, command) {
+        return false;
+    }
     fits(parts_of(command))
 }
 
 // The pins of a command, also of one that the writer does not take.
 fn pins_of(command: Command) -> u32
-    ensures { λ r. ⌜ r ≡ encode (commandOf command) ⌝ }
+    ensures value { λ r. ⌜ r ≡ encode (commandOf command) ⌝ }
+    ensures small { λ r. ⌜ r < 0x800000 ⌝ }
 {
     joined(parts_of(command))
 }
 
+fn pins_for(paired: bool, told: Told, command: Command) -> u32
+    ensures { λ r. ⌜ r ≡ encodeFor paired (toldOf told) (commandOf command) ⌝ }
+{
+    if !paired {
+        return pins_of(command);
+    }
+    if telling::is_nop(command) {
+        return 0x700000;
+    }
+    pins_of(command) + telling::other_select(told)
+}
+
 // The entry field at the start of the buffer, or a refusal that leaves the buffer as it is.
-pub fn write_entry(stamp: u32, command: Command, buffer: &mut [u8]) -> Wrote
-    ensures answer { λ r. ⌜ refusalOf r ≡ writeRefusal (commandOf command) (length (now (buffer .entry))) ⌝ }
-    ensures memory { λ _. ⌜ now (buffer .exit) ≡ written stamp (commandOf command) (now (buffer .entry)) ⌝ }
+pub fn write_entry(
+    paired: bool,
+    told: Told,
+    stamp: u32,
+    command: Command,
+    buffer: &mut [u8],
+) -> Wrote
+    ensures answer { λ r. ⌜ refusalOf r ≡ writeRefusal paired (toldOf told) (commandOf command) (length (now (buffer .entry))) ⌝ }
+    ensures memory { λ _. ⌜ now (buffer .exit) ≡ written paired (toldOf told) stamp (commandOf command) (now (buffer .entry)) ⌝ }
 {
     // 14 comes before 15
-    let fit = takes(command);
+    let fit = takes(paired, told, command);
     if !fit {
         return Wrote::Unfit;
     }
     if buffer.len() < 10 {
         return Wrote::NoRoom;
     }
-    fields::put_entry(buffer, stamp, pins_of(command));
+    fields::put_entry(buffer, stamp, pins_for(paired, told, command));
     Wrote::Done
 }

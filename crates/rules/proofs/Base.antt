@@ -12,18 +12,20 @@ use Rattle.rules.specs.Card.{Card}
 use Rattle.rules.specs.Units.{Delays, interval, delaysOf}
 use Rattle.rules.specs.Commands.{Command}
 use Rattle.rules.specs.Pins.{decode}
+use Rattle.rules.specs.Whose.{sole}
 use Rattle.rules.specs.Levels.{stays, plain}
 use Rattle.rules.specs.Past.{Taken, Past, counterAt, isOpen, countedStamps, commandCount}
 use Rattle.rules.specs.States.{stateGood}
 use Rattle.rules.specs.Folds.{orElse, firstOf, Rule, firstBroken}
-use Rattle.rules.specs.Delays.{Question, find, delayRules}
+use Rattle.rules.specs.Delays.{Asked}
 use Rattle.rules.specs.Account.{Terms, lpddr3, isDue, takeOne, lastCounted}
 use Rattle.rules.specs.Entries.{Entry, commandOf}
 use Rattle.rules.specs.Checks.{Refusal, unless, named, isWrong, isReserved, valueGood, above, notBelow}
 use Rattle.rules.specs.Form.{Field, lastTag}
 use Rattle.rules.specs.File.{FileVerdict, accepted}
-use Rattle.rules.specs.Lines.{entryLines, verdictLine}
+use Rattle.rules.specs.Lines.{verdictLine}
 use Rattle.rules.proofs.Walks.{Judge, judgedBy}
+use Rattle.rules.proofs.Alone.{aloneLook, aloneRules, aloneLines}
 
 -- ---- the account, cycle by cycle: each is counted, and a refresh is due at every positive multiple of I
 unfoldable pub baseCycle : ℕ → (I : ℕ) → (counted : Bool) → (t : ℕ) → ℤ → ℤ
@@ -50,11 +52,11 @@ baseFirst k I cs (suc t) = orElse (baseFirst k I cs t) (baseFailing k I cs t)
 
 -- ---- an entry is what its pins say, and moves nothing
 unfoldable pub baseTaken : Entry → Taken
-baseTaken e = record { stamp = e .stamp; cmd = commandOf (decode (e .pins)); move = stays }
+baseTaken e = record { stamp = e .stamp; cmd = commandOf (decode (e .pins)); move = stays; whose = sole }
 
 -- rules 1 to 18
-unfoldable pub baseRules : Delays → Command → ℕ → List (Rule Question ℕ)
-baseRules d c n = take 18 (delayRules d c stays n)
+unfoldable pub baseRules : Delays → Command → ℕ → List (Rule Asked ℕ)
+baseRules d c n = take 18 (aloneRules d c stays n)
 
 unfoldable pub baseEntry : Card → Past → Entry → Option Refusal
 baseEntry card past e =
@@ -68,7 +70,7 @@ baseEntry card past e =
     unless (not (isReserved (plain d))) 7 ∷
     unless (stateGood (λ b. isOpen b past) (counterAt past) c) 8 ∷
     unless (valueGood card c) 9 ∷
-    named 10 (firstBroken (find card past) (baseRules (delaysOf card) c (counterAt past)) t) ∷
+    named 10 (firstBroken (aloneLook card past) (baseRules (delaysOf card) c (counterAt past)) t) ∷
     named 11 (baseFailing lpddr3 (interval card) (countedStamps (baseTaken e ∷ past)) t) ∷ []
     )
 
@@ -98,4 +100,4 @@ unfoldable pub judgeBase : List ℕ → FileVerdict
 judgeBase bs = judgedBy base bs .verdict
 
 unfoldable pub linesBase : List ℕ → List ℕ
-linesBase bs = let j = judgedBy base bs in entryLines (j .past) ++ verdictLine (j .verdict)
+linesBase bs = let j = judgedBy base bs in aloneLines (j .past) ++ verdictLine (j .verdict)

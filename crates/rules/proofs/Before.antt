@@ -1,40 +1,40 @@
--- A file that does not use low clock-enable has the verdict and the lines that document 01's judge gave it: every file has, unless tag 19 stands behind its
--- card, where that judge refused it by 2.
+-- A file that does not use low clock-enable has the verdict and the lines that document 01's judge gave it: every file had, just before request Nine, unless
+-- tag 19 stands behind its card, where that judge refused it by 2. By `Untagged` every file has still, unless tag 19 or 25 stands so.
 use Prim.Native.Nat.{ℕ, zero, suc, _+_, _-_, _≤_}
-use mathlib.Core.Path.{_≡_, refl, ap, sym, _∙_, fun-ext}
+use mathlib.Core.Path.{_≡_, refl, ap, sym, _∙_, subst, fun-ext}
 use mathlib.Core.Logic.{_⊎_, inl, inr, ⊎-elim}
 use mathlib.Core.Bool.{Bool, true, false, cond, not, _&&_, _||_, and-false, or-false}
-use mathlib.Core.List.{List, [], _∷_, _++_, append-assoc, append-nil, map}
-use mathlib.Core.Option.{Option, none}
+use mathlib.Core.List.{List, [], _∷_, _++_, append-nil, map}
+use mathlib.Core.Option.{none}
 use native.Mathlib.Omega.{arith}
 use lib.Dec.{ltb, eqb}
 use lib.IntN.{ℤ}
-use lib.ListN.{length, take, drop, take-append-drop, length-append}
-use borrow.Author.Tests.{le-ltb, le-leb, eqb-true, eq-eqb, ne-eqb}
+use lib.ListN.{length, take, drop, take-append-drop}
+use borrow.Author.Tests.{le-ltb, eqb-true, eq-eqb, ne-eqb}
 use Rattle.rules.specs.Lists.{when, Every}
 use Rattle.rules.specs.Card.{Card}
 use Rattle.rules.specs.Units.{Delays, interval, delaysOf}
 use Rattle.rules.specs.Commands.{NOP, REFPB, REFAB, Command, is}
 use Rattle.rules.specs.Pins.{decode}
 use Rattle.rules.specs.Levels.{awake, powerDown, selfRefresh, stopped, stays, Move, isFall, isRise, risesFrom, levelAfter, plain, readPins}
-use Rattle.rules.specs.Past.{Taken, Past, bankAt, levelAt, counterAfter, counterAt, countedStamps, commandCount}
-use Rattle.rules.specs.Folds.{orElse, firstOf, Found, Rule, latest, back, permitted, permittedBy, bound, firstBroken}
-use Rattle.rules.specs.Delays.{Ask, lastPowerExit, lastSelfExit, Question, latestMove, means, found, find, from, rule, delayRules}
+use Rattle.rules.specs.Past.{Taken, Past, bankAt, levelAt, counterAfter, counterAt, countedStamps}
+use Rattle.rules.specs.Folds.{orElse, firstOf, Rule, latest, back, permitted, permittedBy, bound, firstBroken}
+use Rattle.rules.specs.Delays.{Ask, lastPowerExit, lastSelfExit, Asked, latestMove, means, found, lookBoth, find, from, rule, delayRules}
 use Rattle.rules.specs.Account.{Terms, lpddr3, isDue, every, onBeat, steady, cycle, ledgerBefore, ledgerAfter, failing, Book, ledgerOn, lastOn, failingOn, firstOn}
-use Rattle.rules.specs.Clock.{clock, beatOf, scheduleOf, bookOf, booksOf}
-use Rattle.rules.specs.Entries.{Entry, viewOf, read, readAfter, commandOf, recordedAs, moveOf, judgedAs, taken, pastWith}
-use Rattle.rules.specs.Checks.{unless, isBarred, checks, entryChecks, endChecks, entryRefusal, endRefusal}
-use Rattle.rules.specs.Verdict.{refreshCount, ledgersAt}
-use Rattle.rules.specs.Form.{Field, bytesOf, sizeOf, groups, _upTo_, lastTag, beginsGroup, ofTrace, mayFollow, mayCome, has, cardOf, fieldGood, entryOf}
+use Rattle.rules.specs.Clock.{clock, beatOf, scheduleOf, bookOf}
+use Rattle.rules.specs.Entries.{Entry, commandOf, recordedAs, moveOf, judgedAs}
+use Rattle.rules.specs.Checks.{unless, isBarred}
+use Rattle.rules.specs.Form.{Field, bytesOf, sizeOf, _upTo_, lastTag, endsGroup, beginsGroup, cardWhole, ofTrace, mayCome, has, cardOf, fieldGood, entryOf}
 use Rattle.rules.specs.File.{accepted, refused, ends, begun, Judged, judged, judgeFile}
 use Rattle.rules.specs.FileReading.{CardRight, cardBytes}
-use Rattle.rules.specs.Lines.{decimal, signed, entryLines, ledgerParts, verdictLine, linesOf}
+use Rattle.rules.specs.Lines.{decimal, signed, ledgerParts, verdictLine, linesOf}
 use Rattle.rules.proofs.Tests.{eq-cases, _&_}
 use Rattle.rules.proofs.Biased.{numbered}
 use Rattle.rules.proofs.Clocks.{Counting, counted-all}
 use Rattle.rules.proofs.Decided.{failing-one, first-one}
-use Rattle.rules.proofs.Tags.{ends-18}
-use Rattle.rules.proofs.Walks.{headBy, byHeadBy, stepBy, judgedBy, defined, defined-judged, Sized, Kept, Here, kept, moved, agree}
+use Rattle.rules.proofs.Walks.{headBy, byHeadBy, stepBy, judgedBy, Sized, Kept, Here, kept, moved, agree, Place, place-start, place-card, place-entry}
+use Rattle.rules.proofs.Alone.{aloneRead, aloneTaken, aloneLook, aloneRules, aloneEntry, aloneEnd, aloneVerdict, aloneGroups, aloneCome, alone, aloneLines, linesAlone}
+use Rattle.rules.proofs.Untagged.{quiet-tail, differs-at-25, Paired, as-alone, alone-lines}
 use Rattle.rules.proofs.Base.{baseCycle, baseBefore, baseLedger, baseFailing, baseFirst, baseTaken, baseRules, baseEntry, baseEnd, baseVerdict, baseCome, base, judgeBase, linesBase}
 
 -- ---- the account
@@ -83,13 +83,13 @@ map-id : (f : ℕ → ℕ) → ((n : ℕ) → f n ≡ n) → (l : List ℕ) → 
 map-id f h [] = refl
 map-id f h (x ∷ l) = rw (h x, map-id f h l)
 
-still-books : (card : Card) (past : Past) → Still past → booksOf card past ≡ straight (interval card) (countedStamps past) ∷ []
-unfolding booksOf bookOf scheduleOf beatOf
-still-books card past s = λ i. record {
+still-book : (card : Card) (past : Past) → Still past → bookOf card past ≡ straight (interval card) (countedStamps past)
+unfolding bookOf scheduleOf beatOf
+still-book card past s = λ i. record {
   schedule = steady (every (interval card));
   clock = fun-ext {f = clock past} {g = λ t. t} (still-clock past s) i;
   refreshes = map-id (clock past) (still-clock past s) (countedStamps past) i;
-} ∷ []
+}
 
 -- no exit is found
 still-latest : (p : Move → Bool) → p stays ≡ false → (past : Past) → Still past → latest (λ (e : Taken) (t : Past). p (e .move)) past ≡ []
@@ -107,90 +107,87 @@ module _ (card : Card) (past : Past) (s : Still past) where
   no-self-exit b = rw (still-latest (risesFrom selfRefresh) refl past s)
 
   -- so rules 21 to 24 are silent
-  none-from : (x : Bool) (b d : ℕ) (a : Ask) → find card past (record { ask = a; bank = b }) ≡ none → permittedBy (find card past) (from (when x (b ∷ [])) d a) ≡ 0
-  unfolding from when permittedBy
+  none-from : (x : Bool) (b d : ℕ) (a : Ask) → find card past (record { ask = a; bank = b }) ≡ none → permittedBy (aloneLook card past) (from (when x (b ∷ [])) d a) ≡ 0
+  unfolding from when permittedBy aloneLook lookBoth
   none-from true b d a h = rw h (unfold permitted in refl)
   none-from false b d a h = refl
 
-  silent : (d : Delays) (c : Command) (n : ℕ) → Every (λ q. bound (find card past) q ≡ 0) (drop 18 (delayRules d c stays n))
-  unfolding Every delayRules bound rule isRise isFall risesFrom
+  silent : (d : Delays) (c : Command) (n : ℕ) → Every (λ q. bound (aloneLook card past) q ≡ 0) (drop 18 (aloneRules d c stays n))
+  unfolding Every aloneRules delayRules bound rule isRise isFall risesFrom
   silent d c n = unfold when from permittedBy in refl
       & none-from (not (is NOP c)) (bankAt c n) (d .txp) lastPowerExit (no-power-exit (bankAt c n))
       & unfold when from permittedBy in refl
       & none-from (not (is NOP c)) (bankAt c n) (d .txsr) lastSelfExit (no-self-exit (bankAt c n))
       & tt
 
-quiet-tail : (look : Question → Option (Found ℕ)) (t : ℕ) (xs ys : List (Rule Question ℕ)) → Every (λ q. bound look q ≡ 0) ys →
-    firstBroken look (xs ++ ys) t ≡ firstBroken look xs t
-unfolding firstBroken Every
-quiet-tail look t [] [] h = refl
-quiet-tail look t [] (y ∷ ys) h = rw (h .0, le-leb 0 t (omega arith)) (quiet-tail look t [] ys (h .1))
-quiet-tail look t (x ∷ xs) ys h = rw (quiet-tail look t xs ys h)
-
 -- ---- an entry and the end
 module _ (card : Card) (still : card .sleeps ≡ false) (past : Past) (s : Still past) where
   same-rules : (d : Delays) (c : Command) (n t : ℕ) →
-      firstBroken (find card past) (delayRules d c stays n) t ≡ firstBroken (find card past) (baseRules d c n) t
+      firstBroken (aloneLook card past) (aloneRules d c stays n) t ≡ firstBroken (aloneLook card past) (baseRules d c n) t
   unfolding baseRules
   same-rules d c n t =
-      sym (ap (λ (l : List (Rule Question ℕ)). firstBroken (find card past) l t) (take-append-drop 18 (delayRules d c stays n)))
-      ∙ quiet-tail (find card past) t (take 18 (delayRules d c stays n)) (drop 18 (delayRules d c stays n)) (silent card past s d c n)
+      sym (ap (λ (l : List (Rule Asked ℕ)). firstBroken (aloneLook card past) l t) (take-append-drop 18 (aloneRules d c stays n)))
+      ∙ quiet-tail (aloneLook card past) t (take 18 (aloneRules d c stays n)) (drop 18 (aloneRules d c stays n)) (silent card past s d c n)
 
-  read-plain : (e : Entry) → readAfter card past e ≡ plain (decode (e .pins))
-  unfolding readAfter read readPins
+  read-plain : (e : Entry) → aloneRead card past e ≡ plain (decode (e .pins))
+  unfolding aloneRead readPins
   read-plain e = rw still
 
-  same-next : (e : Entry) → pastWith card past e ≡ baseTaken e ∷ past
-  unfolding pastWith taken baseTaken
+  same-next : (e : Entry) → aloneTaken card past e ≡ baseTaken e
+  unfolding aloneTaken baseTaken
   same-next e = rw (read-plain e) (unfold recordedAs moveOf in refl)
 
   still-next : (e : Entry) → Still (baseTaken e ∷ past)
   unfolding Still baseTaken
   still-next e = (refl, s)
 
-  same-entry : (e : Entry) → entryRefusal card past e ≡ baseEntry card past e
-  unfolding entryRefusal entryChecks baseEntry checks
+  same-entry : (e : Entry) → aloneEntry card past e ≡ baseEntry card past e
+  unfolding aloneEntry baseEntry
   same-entry e =
       rw (
         same-next e,
-        still-books card past s,
-        still-books card (baseTaken e ∷ past) (still-next e),
+        still-book card past s,
+        still-book card (baseTaken e ∷ past) (still-next e),
         first-one lpddr3 (straight (interval card) (countedStamps past)) (e .stamp),
         failing-one lpddr3 (straight (interval card) (countedStamps (baseTaken e ∷ past))) (e .stamp),
         first-is lpddr3 (interval card) (countedStamps past) (e .stamp),
         failing-is lpddr3 (interval card) (countedStamps (baseTaken e ∷ past)) (e .stamp),
         read-plain e,
       )
-      (unfold judgedAs moveOf viewOf isBarred unless firstOf orElse in
+      (unfold judgedAs moveOf isBarred unless firstOf orElse in
       rw (same-rules (delaysOf card) (commandOf (decode (e .pins))) (counterAt past) (e .stamp)))
 
-  same-end : (end : ℕ) → endRefusal card past end ≡ baseEnd card past end
-  unfolding endRefusal endChecks baseEnd
-  same-end end = rw (still-books card past s, first-one lpddr3 (straight (interval card) (countedStamps past)) (suc end), first-is lpddr3 (interval card) (countedStamps past) (suc end))
+  same-end : (end : ℕ) → aloneEnd card past end ≡ baseEnd card past end
+  unfolding aloneEnd baseEnd
+  same-end end = rw (still-book card past s, first-one lpddr3 (straight (interval card) (countedStamps past)) (suc end), first-is lpddr3 (interval card) (countedStamps past) (suc end))
 
-  same-verdict : (end : ℕ) → accepted (commandCount past) (refreshCount past) (ledgersAt card past end) ≡ baseVerdict card past end
-  unfolding refreshCount ledgersAt baseVerdict baseLedger
-  same-verdict end = rw (still-books card past s) (unfold ledgerOn ledgerAfter in rw (ledger-is (lpddr3 .credit) (interval card) (countedStamps past) (suc end)))
+  same-verdict : (end : ℕ) → aloneVerdict card past end ≡ baseVerdict card past end
+  unfolding aloneVerdict baseVerdict baseLedger
+  same-verdict end = rw (still-book card past s) (unfold ledgerOn ledgerAfter in rw (ledger-is (lpddr3 .credit) (interval card) (countedStamps past) (suc end)))
 
 -- ---- the tags
 -- up to tag 18 the two tests differ for tag 19 alone, behind tag 18 and before the first entry
 module _ (b : Bool) (fs : List Field) (low : lastTag fs ≤ 18) (t : ℕ) where
-  none-begins : lastTag fs ≡ 18 → (t ≡ 19 → ⊥) → (ltb (lastTag fs) t && beginsGroup groups t) ≡ false
-  unfolding beginsGroup groups _upTo_
+  ends-18 : endsGroup aloneGroups (lastTag fs) ≡ eqb 18 (lastTag fs)
+  unfolding endsGroup aloneGroups _upTo_
+  ends-18 = rw (ne-eqb 22 (lastTag fs) (λ e. omega (arith, e, low))) (or-false (eqb 18 (lastTag fs)))
+
+  none-begins : lastTag fs ≡ 18 → (t ≡ 19 → ⊥) → (ltb (lastTag fs) t && beginsGroup aloneGroups t) ≡ false
+  unfolding beginsGroup aloneGroups _upTo_
   none-begins l n = rw (ne-eqb 19 t (λ e. n (sym e))) (⊎-elim
       (λ (q : (1 ≡ t) × (eqb 1 t ≡ true)). rw (le-ltb (lastTag fs) t (omega (arith, l, q .0))))
       (λ (q : (1 ≡ t → ⊥) × (eqb 1 t ≡ false)). rw (q .1) (and-false (ltb (lastTag fs) t)))
       (eq-cases 1 t))
 
-  tag-differs : (mayCome b fs t ≡ baseCome fs t) ⊎ ((b ≡ false) × (lastTag fs ≡ 18) × (t ≡ 19))
-  unfolding mayCome mayFollow baseCome ofTrace
-  tag-differs = rw (ends-18 (lastTag fs) low) (⊎-elim
+  tag-differs : (aloneCome b fs t ≡ baseCome fs t) ⊎ ((b ≡ false) × (lastTag fs ≡ 18) × (t ≡ 19))
+  unfolding aloneCome baseCome ofTrace
+  tag-differs = rw ends-18 (⊎-elim
       (λ (q : (lastTag fs ≡ 18) × (eqb (lastTag fs) 18 ≡ true)). rw (q .1, eq-eqb 18 (lastTag fs) (sym (q .0))) (by b refl (q .0) (eq-cases t 19)))
       (λ (q : (lastTag fs ≡ 18 → ⊥) × (eqb (lastTag fs) 18 ≡ false)). rw (q .1, ne-eqb 18 (lastTag fs) (λ e. q .0 (sym e))) (inl refl))
       (eq-cases (lastTag fs) 18))
     where
       by : (x : Bool) → b ≡ x → lastTag fs ≡ 18 → ((t ≡ 19) × (eqb t 19 ≡ true)) ⊎ ((t ≡ 19 → ⊥) × (eqb t 19 ≡ false)) →
-          (((eqb t 32 || eqb t 33) || (not x && (ltb (lastTag fs) t && beginsGroup groups t))) ≡ (eqb t 32 || eqb t 33)) ⊎ ((b ≡ false) × (lastTag fs ≡ 18) × (t ≡ 19))
+          (((eqb t 32 || eqb t 33) || (not x && (ltb (lastTag fs) t && beginsGroup aloneGroups t))) ≡ (eqb t 32 || eqb t 33)) ⊎ ((b ≡ false) × (lastTag fs ≡ 18) × (t ≡ 19))
       by true e l c = inl (or-false (eqb t 32 || eqb t 33))
       by false e l (inl q) = inr (e, l, q .0)
       by false e l (inr q) = inl (rw (none-begins l (q .0)) (or-false (eqb t 32 || eqb t 33)))
@@ -219,8 +216,7 @@ module _ (bytes : List ℕ) where
     low : lastTag fs ≤ 18
     without : has 19 fs ≡ false
     still : Still past
-    split : begun past ≡ false → bytes ≡ cardBytes fs ++ bs
-    offset : begun past ≡ false → at ≡ length (cardBytes fs)
+    place : Place bytes fs past at bs
 
   module _ (fs : List Field) (past : Past) (at : ℕ) (bs : List ℕ) (a : At fs past at bs) where
     awake-card : cardOf fs .sleeps ≡ false
@@ -229,7 +225,7 @@ module _ (bytes : List ℕ) where
 
     card-on : (f : Field) (rest : List ℕ) → bs ≡ bytesOf f ++ rest → baseCome fs (f .tag) ≡ true → Sized f → ofTrace (f .tag) ≡ false → fieldGood fs f ≡ true →
         At (f ∷ fs) past (at + sizeOf f) rest
-    unfolding CardRight has lastTag cardBytes
+    unfolding CardRight has lastTag
     card-on f rest e m s o g =
         let n = next-tag fs (f .tag) m o (a .low) in
         record {
@@ -237,18 +233,20 @@ module _ (bytes : List ℕ) where
           low = n .1;
           without = rw (ne-eqb (f .tag) 19 (λ q. omega (arith, q, n .1))) (a .without);
           still = a .still;
-          split = λ b. a .split b ∙ ap (λ (l : List ℕ). cardBytes fs ++ l) e ∙ sym (append-assoc (cardBytes fs) (bytesOf f) rest);
-          offset = λ b. longer (a .offset b);
+          place = place-card fs past at bs (a .place) f rest e;
         }
       where
+        small : f .tag ≤ 18
+        small = next-tag fs (f .tag) m o (a .low) .1
+
         may : mayCome false fs (f .tag) ≡ true
         may = ⊎-elim
-            (λ (q : mayCome false fs (f .tag) ≡ baseCome fs (f .tag)). q ∙ m)
-            (λ (q : (false ≡ false) × (lastTag fs ≡ 18) × (f .tag ≡ 19)). let n = next-tag fs (f .tag) m o (a .low) in absurd (omega (arith, n .1, q .2)))
-            (tag-differs false fs (a .low) (f .tag))
-
-        longer : at ≡ length (cardBytes fs) → at + sizeOf f ≡ length (cardBytes fs ++ bytesOf f)
-        longer e = rw (length-append, e) (unfold sizeOf bytesOf in omega arith)
+            (λ (q : mayCome false fs (f .tag) ≡ aloneCome false fs (f .tag)). q ∙ ⊎-elim
+            (λ (r : aloneCome false fs (f .tag) ≡ baseCome fs (f .tag)). r ∙ m)
+            (λ (r : (false ≡ false) × (lastTag fs ≡ 18) × (f .tag ≡ 19)). absurd (omega (arith, small, r .2)))
+            (tag-differs false fs (a .low) (f .tag)))
+            (λ (q : (false ≡ false) × (cardWhole fs ≡ true) × (f .tag ≡ 25)). absurd (omega (arith, small, q .2)))
+            (differs-at-25 fs (omega (arith, a .low)) false (f .tag))
 
     entry-on : (f : Field) (rest : List ℕ) → At fs (baseTaken (entryOf f) ∷ past) (at + sizeOf f) rest
     entry-on f rest = record {
@@ -256,20 +254,16 @@ module _ (bytes : List ℕ) where
       low = a .low;
       without = a .without;
       still = still-next (cardOf fs) awake-card past (a .still) (entryOf f);
-      split = λ b. absurd (begins b);
-      offset = λ b. absurd (begins b);
+      place = place-entry fs _ past _ rest;
     }
-      where
-        begins : begun (baseTaken (entryOf f) ∷ past) ≡ false → ⊥
-        begins b = let q : true ≡ false = unfold begun in b in let z : _≡_ {A = ℕ} 0 1 = cc in omega arith
 
-    keep : ((t : ℕ) (rest : List ℕ) → bs ≡ t ∷ rest → mayCome (begun past) fs t ≡ baseCome fs t) → Kept defined base At (Tagged bytes) fs past at bs
-    unfolding defined base
+    keep : ((t : ℕ) (rest : List ℕ) → bs ≡ t ∷ rest → aloneCome (begun past) fs t ≡ baseCome fs t) → Kept alone base At (Tagged bytes) fs past at bs
+    unfolding alone base
     keep c = record {
       agrees = record {
         come = c;
         entry = λ m. same-entry (cardOf fs) awake-card past (a .still);
-        next = λ m. same-next (cardOf fs) awake-card past (a .still);
+        next = λ m e. ap (λ (x : Taken). x ∷ past) (same-next (cardOf fs) awake-card past (a .still) e);
         end = λ m. same-end (cardOf fs) awake-card past (a .still);
         verdict = λ m end n. same-verdict (cardOf fs) awake-card past (a .still) end;
       };
@@ -281,21 +275,21 @@ module _ (bytes : List ℕ) where
   unfolding stepBy headBy byHeadBy base baseCome
   ended-before fs past at rest l = rw (eq-eqb (lastTag fs) 18 l)
 
-  here : (fs : List Field) (past : Past) (at : ℕ) (bs : List ℕ) → At fs past at bs → Here defined base At (Tagged bytes) fs past at bs
+  here : (fs : List Field) (past : Past) (at : ℕ) (bs : List ℕ) → At fs past at bs → Here alone base At (Tagged bytes) fs past at bs
   here fs past at [] a = kept (keep fs past at [] a (λ t rest e. absurd (none e)))
     where
       none : {t : ℕ} {rest : List ℕ} → Path (List ℕ) [] (t ∷ rest) → ⊥
       none e = let z : _≡_ {A = ℕ} 0 1 = cc in omega arith
   here fs past at (t ∷ bs) a = ⊎-elim
-      (λ (c : mayCome (begun past) fs t ≡ baseCome fs t). kept (keep fs past at (t ∷ bs) a (λ u rest e. let z : t ≡ u = cc in rw (← z) c)))
+      (λ (c : aloneCome (begun past) fs t ≡ baseCome fs t). kept (keep fs past at (t ∷ bs) a (λ u rest e. let z : t ≡ u = cc in rw (← z) c)))
       (λ (q : (begun past ≡ false) × (lastTag fs ≡ 18) × (t ≡ 19)).
       moved (refused 2 0 at 0) (rw (q .2) (ended-before fs past at bs (q .1))) (record {
         fs = fs;
         rest = bs;
         card = a .right;
         last = q .1;
-        split = a .split (q .0) ∙ ap (λ (x : ℕ). cardBytes fs ++ (x ∷ bs)) (q .2);
-        verdict = ap (λ (n : ℕ). refused 2 0 n 0) (a .offset (q .0));
+        split = a .place .split (q .0) ∙ ap (λ (x : ℕ). cardBytes fs ++ (x ∷ bs)) (q .2);
+        verdict = ap (λ (n : ℕ). refused 2 0 n 0) (a .place .offset (q .0));
       }))
       (tag-differs (begun past) fs (a .low) t)
 
@@ -305,28 +299,41 @@ module _ (bytes : List ℕ) where
     low = unfold lastTag in omega arith;
     without = unfold has in refl;
     still = unfold Still in tt;
-    split = λ b. unfold cardBytes in refl;
-    offset = λ b. unfold cardBytes in refl;
+    place = place-start;
   }
 
-  -- the entries taken and the verdict are those of document 01's judge, or tag 19 stands where it saw a wrong tag
-  pub as-before : (judged bytes ≡ judgedBy base bytes) ⊎ Tagged bytes (judgedBy base bytes)
-  as-before = ⊎-elim (λ (e : judgedBy defined bytes ≡ judgedBy base bytes). inl (sym (defined-judged bytes) ∙ e)) (λ (t : Tagged bytes (judgedBy base bytes)). inr t)
-      (agree defined base At (Tagged bytes) here bytes start)
+  -- the entries taken and the verdict were those of document 01's judge, or tag 19 stands where it saw a wrong tag
+  pub as-before : (judgedBy alone bytes ≡ judgedBy base bytes) ⊎ Tagged bytes (judgedBy base bytes)
+  as-before = agree alone base At (Tagged bytes) here bytes start
+
+  -- and they are still, or tag 19 or 25 stands so
+  pub as-ever : (judged bytes ≡ judgedBy base bytes) ⊎ (Tagged bytes (judgedBy base bytes) ⊎ Paired bytes (judgedBy base bytes))
+  as-ever = by as-before (as-alone bytes)
+    where
+      by : (judgedBy alone bytes ≡ judgedBy base bytes) ⊎ Tagged bytes (judgedBy base bytes) → (judged bytes ≡ judgedBy alone bytes) ⊎ Paired bytes (judgedBy alone bytes) →
+          (judged bytes ≡ judgedBy base bytes) ⊎ (Tagged bytes (judgedBy base bytes) ⊎ Paired bytes (judgedBy base bytes))
+      by (inr t) q = inr (inl t)
+      by (inl e) (inl q) = inl (q ∙ e)
+      by (inl e) (inr p) = inr (inr (subst (Paired bytes) e p))
 
   -- so where that judge's verdict is no wrong tag, verdict and lines are as they were
   module _ (right : (at : ℕ) → judgeBase bytes ≡ refused 2 0 at 0 → ⊥) where
-    same : judged bytes ≡ judgedBy base bytes
-    unfolding judgeBase
-    same = ⊎-elim (λ (e : judged bytes ≡ judgedBy base bytes). e) (λ (t : Tagged bytes (judgedBy base bytes)). absurd (right _ (t .verdict))) as-before
+    wrong : {A : Type 0} (j : Judged) → judgedBy base bytes ≡ j → (at : ℕ) → j .verdict ≡ refused 2 0 at 0 → A
+    wrong j e at v = absurd (right at (unfold judgeBase in ap (λ (j : Judged). j .verdict) e ∙ v))
+
+    then : judgedBy alone bytes ≡ judgedBy base bytes
+    then = ⊎-elim (λ (e : judgedBy alone bytes ≡ judgedBy base bytes). e) (λ (t : Tagged bytes (judgedBy base bytes)). wrong _ refl _ (t .verdict)) as-before
+
+    now : judged bytes ≡ judgedBy alone bytes
+    now = ⊎-elim (λ (e : judged bytes ≡ judgedBy alone bytes). e) (λ (t : Paired bytes (judgedBy alone bytes)). wrong _ (sym then) _ (t .verdict)) (as-alone bytes)
 
     pub verdict-as-before : judgeFile bytes ≡ judgeBase bytes
     unfolding judgeFile judgeBase
-    verdict-as-before = ap (λ (j : Judged). j .verdict) same
+    verdict-as-before = ap (λ (j : Judged). j .verdict) (now ∙ then)
 
     pub lines-as-before : linesOf bytes ≡ linesBase bytes
-    unfolding linesOf linesBase
-    lines-as-before = ap (λ (j : Judged). entryLines (j .past) ++ verdictLine (j .verdict)) same
+    unfolding linesAlone linesBase
+    lines-as-before = alone-lines bytes now ∙ ap (λ (j : Judged). aloneLines (j .past) ++ verdictLine (j .verdict)) then
 
 -- ---- what document 01's judge shares with the definitions is as it was for it: the round counter where clock-enable stays, and the line of a verdict with
 -- one ledger

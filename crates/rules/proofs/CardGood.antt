@@ -1,7 +1,8 @@
 -- The parts of a card in range, by their names.
 use mathlib.Core.Path.{_≡_}
-use mathlib.Core.Bool.{true}
+use mathlib.Core.Bool.{true, not, _&&_}
 use mathlib.Core.List.{_++_}
+use lib.Dec.{leb}
 use Rattle.rules.specs.Lists.{all}
 use Rattle.rules.specs.Card.{Card}
 use Rattle.rules.specs.Registers.{mr2Good}
@@ -14,6 +15,8 @@ pub record GoodCard (card : Card) : Type 0 where
   pub groups : groupsGood (card .groups) ≡ true
   pub trefi : trefiGood (card .period) (card .trefi) ≡ true
   pub timed : all timingGood (timings card ++ sleepTimings card) ≡ true
+  pub gap : leb (card .gap) 255 ≡ true
+  pub apart : not (card .sleeps && card .paired) ≡ true
 
 pub good-parts : (card : Card) → cardGood card ≡ true → GoodCard card
 unfolding cardGood
@@ -22,8 +25,10 @@ good-parts card e =
     let b = both-true _ _ (a .0) in
     let c = both-true _ _ (b .0) in
     let d = both-true _ _ (c .0) in
-    record { period = d .0; mr2 = d .1; groups = c .1; trefi = b .1; timed = a .1 }
+    let t = both-true _ _ (a .1) in
+    let g = both-true _ _ (t .1) in
+    record { period = d .0; mr2 = d .1; groups = c .1; trefi = b .1; timed = t .0; gap = g .0; apart = g .1 }
 
 pub parts-good : (card : Card) → GoodCard card → cardGood card ≡ true
 unfolding cardGood
-parts-good card g = rw (g .period, g .mr2, g .groups, g .trefi) (g .timed)
+parts-good card g = rw (g .period, g .mr2, g .groups, g .trefi, g .timed, g .gap) (g .apart)

@@ -11,11 +11,10 @@ use lib.IntN.{ℤ, pos}
 use lib.Signed.{leZ}
 use borrow.Author.Tests.{lt-ltb}
 use Rattle.rules.specs.Levels.{stopped}
-use Rattle.rules.specs.Past.{Taken, Past, levelAt}
+use Rattle.rules.specs.Past.{Taken, Past, lastCycle, levelAt}
 use Rattle.rules.specs.Folds.{orElse}
 use Rattle.rules.specs.Account.{Terms, Schedule, failing, idle, firstIdle}
 use Rattle.rules.specs.Clock.{levelBelow, counts, countedFrom, clock}
-use Rattle.rules.specs.Lent.{lastCycle}
 use Rattle.rules.proofs.Tests.{bit-le}
 use Rattle.rules.proofs.Rounds.{Less}
 use Rattle.rules.proofs.Clocks.{clock-other, N-suc, N-clock, N-up}

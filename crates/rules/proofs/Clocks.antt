@@ -14,12 +14,13 @@ use Rattle.rules.specs.Bits.{on}
 use Rattle.rules.specs.Card.{Card}
 use Rattle.rules.specs.Commands.{nop, is, code, bare, carries, kindOf}
 use Rattle.rules.specs.Pins.{wrongBits}
-use Rattle.rules.specs.Levels.{Level, awake, powerDown, selfRefresh, deep, stopped, stays, levelAfter, plain, moved, rises, asleep, barred, rise, readAt, readPins}
-use Rattle.rules.specs.Past.{Taken, Past, levelAt, counterAt, isCounted, stampsWhere, countedStamps}
-use Rattle.rules.specs.Entries.{Entry, read, readAfter, commandOf, recordedAs, moveOf, taken, pastWith, pastOver}
+use Rattle.rules.specs.Levels.{Level, awake, powerDown, selfRefresh, deep, stopped, stays, levelAfter, plain, moved, rises, asleep, barred, rise, readAt, readPins, selected, readPair, readAs}
+use Rattle.rules.specs.Past.{Taken, Past, ofPart, levelAt, counterAt, isCounted, stampsWhere, countedStamps}
+use Rattle.rules.specs.Entries.{Entry, read, readAfter, commandOf, recordedAs, moveOf, taken, pastOver}
 use Rattle.rules.specs.Stretch.{countIn}
 use Rattle.rules.specs.Clock.{levelBelow, counts, countedFrom, clock}
 use Rattle.rules.proofs.Tests.{lt-cases, le-cases, bit-le}
+use Rattle.rules.proofs.Filtered.{kept-over}
 use Rattle.rules.proofs.Rounds.{AllBelow, Rising, Less, less-where, below-more}
 
 -- ---- a later entry
@@ -154,30 +155,43 @@ nop-uncounted : (n : ℕ) → isCounted nop n ≡ true → ⊥
 unfolding isCounted is code kindOf carries bare
 nop-uncounted n h = let z : _≡_ {A = ℕ} 0 1 = cc in omega arith
 
+pair-stays : (p : ℕ) → moveOf (readPair p) ≡ stays
+unfolding readPair selected moveOf
+pair-stays p = go (on p 21 && eqb (p / 2 ^ 23) 0) (on p 20) (on p 22)
+  where
+    go : (x y z : Bool) → moveOf (cond x (selected y z p) (plain wrongBits)) ≡ stays
+    go false y z = refl
+    go true true true = refl
+    go true true false = refl
+    go true false true = refl
+    go true false false = refl
+
 module _ (card : Card) where
   pub start-orderly : Orderly card []
   unfolding Awake levelAt
   start-orderly = record { quiet = λ h. refl; awakes = tt }
 
-  stays-quiet : (l : Level) (p : ℕ) → card .sleeps ≡ false → moveOf (readPins (card .sleeps) l p) ≡ stays
-  unfolding readPins moveOf
-  stays-quiet l p h = rw h
+  stays-quiet : (d : Bool) (l : Level) (p : ℕ) → moveOf (readAs false d l p) ≡ stays
+  unfolding readAs readPins moveOf
+  stays-quiet false l p = refl
+  stays-quiet true l p = pair-stays p
 
-  awake-read : (l : Level) (p n : ℕ) (x : Bool) → (x ≡ false → l ≡ awake) → isCounted (recordedAs (readPins x l p)) n ≡ true → l ≡ awake
-  awake-read l p n false q h = q refl
-  awake-read l p n true q h = ⊎-elim (λ (e : l ≡ awake). e) (λ (e : recordedAs (readPins true l p) ≡ nop). absurd (nop-uncounted n (rw e at h))) (asleep-nop l p)
+  awake-read : (l : Level) (p n : ℕ) (x d : Bool) → (x ≡ false → l ≡ awake) → isCounted (recordedAs (readAs x d l p)) n ≡ true → l ≡ awake
+  unfolding readAs
+  awake-read l p n false d q h = q refl
+  awake-read l p n true d q h = ⊎-elim (λ (e : l ≡ awake). e) (λ (e : recordedAs (readPins true l p) ≡ nop). absurd (nop-uncounted n (rw e at h))) (asleep-nop l p)
 
-  pub taken-orderly : (past : Past) (e : Entry) → Orderly card past → Orderly card (pastWith card past e)
-  unfolding Awake levelAt pastWith taken read readAfter
+  -- behind a part's own entries
+  pub taken-orderly : (past : Past) (e : Entry) → Orderly card past → Orderly card (taken card past e ∷ past)
+  unfolding Awake levelAt taken read readAfter
   taken-orderly past e o = record {
-    quiet = λ h. rw (stays-quiet (levelAt past) (e .pins) h) (unfold levelAfter in o .quiet h);
-    awakes = (awake-read (levelAt past) (e .pins) (counterAt past) (card .sleeps) (o .quiet), o .awakes);
+    quiet = λ h. rw (h, stays-quiet (card .paired) (levelAt past) (e .pins)) (unfold levelAfter in o .quiet h);
+    awakes = (awake-read (levelAt past) (e .pins) (counterAt past) (card .sleeps) (card .paired) (o .quiet), o .awakes);
   }
 
-  pub orderly-over : (past : Past) (es : List Entry) → Orderly card past → Orderly card (pastOver card past es)
-  unfolding pastOver
-  orderly-over past [] o = o
-  orderly-over past (e ∷ es) o = orderly-over (pastWith card past e) es (taken-orderly past e o)
+  -- each part's own
+  pub orderly-over : (p : ℕ) (past : Past) (es : List Entry) → Orderly card (ofPart p past) → Orderly card (ofPart p (pastOver card past es))
+  orderly-over p = kept-over card p (Orderly card) taken-orderly
 
 -- the level before a cycle after all entries
 pub level-after : (past : Past) (t : ℕ) → AllBelow t past → levelBelow t past ≡ levelAt past
@@ -227,13 +241,13 @@ counted-all past c a zero = refl
 counted-all past c a (suc n) = rw (counted-all past c a n, all-count past c (a + n)) (omega arith)
 
 -- so it is under a card without low clock-enable
-pub counting-over : (card : Card) → card .sleeps ≡ false → (past : Past) (es : List Entry) → Orderly card past → Counting past → Counting (pastOver card past es)
-unfolding pastOver
-counting-over card h past [] o c = c
-counting-over card h past (e ∷ es) o c = counting-over card h (pastWith card past e) es next (unfold Counting pastWith stopped in (rw (level h), c))
-  where
-    next : Orderly card (pastWith card past e)
-    next = taken-orderly card past e o
+module _ (card : Card) (h : card .sleeps ≡ false) where
+  abbrev Quiet : Past → Type 0
+  Quiet own = Orderly card own × Counting own
 
-    level : card .sleeps ≡ false → levelAt (taken card past e ∷ past) ≡ awake
-    level h = unfold pastWith in next .quiet h
+  quiet-next : (own : Past) (e : Entry) → Quiet own → Quiet (taken card own e ∷ own)
+  unfolding Counting stopped
+  quiet-next own e q = let o = taken-orderly card own e (q .0) in (o, (rw (o .quiet h), q .1))
+
+  pub counting-over : (p : ℕ) (past : Past) (es : List Entry) → Orderly card (ofPart p past) → Counting (ofPart p past) → Counting (ofPart p (pastOver card past es))
+  counting-over p past es o c = kept-over card p Quiet quiet-next past es (o, c) .1

@@ -12,11 +12,11 @@ use lib.Signed.{leZ, _≤ℤ_}
 use borrow.Author.Tests.{ltb-true, lt-ltb, leb-true, le-leb}
 use Rattle.rules.specs.Lists.{Every}
 use Rattle.rules.specs.Pins.{good, wrongBits, reserved}
-use Rattle.rules.specs.Levels.{Read, plain, moved, asleep, barred}
+use Rattle.rules.specs.Levels.{Read, plain, moved, asleep, barred, clash}
 use Rattle.rules.specs.Past.{Past}
 use Rattle.rules.specs.Folds.{Found, Rule, orElse, firstOf, bound, firstBroken}
 use Rattle.rules.specs.Account.{Terms, failing, Book, ledgerOn, sinceOn, failingOn, firstOn, failingIn, firstIn}
-use Rattle.rules.specs.Checks.{Refusal, refusal, unless, named, isWrong, isReserved, isBarred, above, notBelow}
+use Rattle.rules.specs.Checks.{Refusal, refusal, unless, named, isWrong, isReserved, isBarred, isClash, above, notBelow}
 use Rattle.rules.specs.Reading.{
   Check,
   AllPass,
@@ -108,6 +108,7 @@ not-wrong (plain reserved) = (λ e q. let z : _≡_ {A = ℕ} 0 1 = cc in omega 
 not-wrong (moved m) = (λ e q. let z : _≡_ {A = ℕ} 0 1 = cc in omega arith, λ f. refl)
 not-wrong asleep = (λ e q. let z : _≡_ {A = ℕ} 0 1 = cc in omega arith, λ f. refl)
 not-wrong barred = (λ e q. let z : _≡_ {A = ℕ} 0 1 = cc in omega arith, λ f. refl)
+not-wrong clash = (λ e q. let z : _≡_ {A = ℕ} 0 1 = cc in omega arith, λ f. refl)
 
 pub not-reserved : (r : Read) → (not (isReserved r) ≡ true) ↔ (¬ (r ≡ plain reserved))
 unfolding isReserved
@@ -117,6 +118,7 @@ not-reserved (plain reserved) = (λ e q. let z : _≡_ {A = ℕ} 0 1 = cc in ome
 not-reserved (moved m) = (λ e q. let z : _≡_ {A = ℕ} 0 1 = cc in omega arith, λ f. refl)
 not-reserved asleep = (λ e q. let z : _≡_ {A = ℕ} 0 1 = cc in omega arith, λ f. refl)
 not-reserved barred = (λ e q. let z : _≡_ {A = ℕ} 0 1 = cc in omega arith, λ f. refl)
+not-reserved clash = (λ e q. let z : _≡_ {A = ℕ} 0 1 = cc in omega arith, λ f. refl)
 
 pub not-barred : (r : Read) → (not (isBarred r) ≡ true) ↔ (¬ (r ≡ barred))
 unfolding isBarred
@@ -124,6 +126,15 @@ not-barred (plain d) = (λ e q. let z : _≡_ {A = ℕ} 0 1 = cc in omega arith,
 not-barred (moved m) = (λ e q. let z : _≡_ {A = ℕ} 0 1 = cc in omega arith, λ f. refl)
 not-barred asleep = (λ e q. let z : _≡_ {A = ℕ} 0 1 = cc in omega arith, λ f. refl)
 not-barred barred = (λ e q. let z : _≡_ {A = ℕ} 0 1 = cc in omega arith, λ f. absurd (f refl))
+not-barred clash = (λ e q. let z : _≡_ {A = ℕ} 0 1 = cc in omega arith, λ f. refl)
+
+pub not-clash : (r : Read) → (not (isClash r) ≡ true) ↔ (¬ (r ≡ clash))
+unfolding isClash
+not-clash (plain d) = (λ e q. let z : _≡_ {A = ℕ} 0 1 = cc in omega arith, λ f. refl)
+not-clash (moved m) = (λ e q. let z : _≡_ {A = ℕ} 0 1 = cc in omega arith, λ f. refl)
+not-clash asleep = (λ e q. let z : _≡_ {A = ℕ} 0 1 = cc in omega arith, λ f. refl)
+not-clash barred = (λ e q. let z : _≡_ {A = ℕ} 0 1 = cc in omega arith, λ f. refl)
+not-clash clash = (λ e q. let z : _≡_ {A = ℕ} 0 1 = cc in omega arith, λ f. absurd (f refl))
 
 -- ---- the delay rules
 module _ {Q X : Type 0} (look : Q → Option (Found X)) where
@@ -295,7 +306,7 @@ module _ (k : Terms) (bs : List Book) where
   }
 
   -- below a cycle
-  pub all-paid : (n : ℕ) → (firstIn k bs n ≡ none) ↔ ((t : ℕ) → t < n → EachPaid k bs t)
+  all-paid : (n : ℕ) → (firstIn k bs n ≡ none) ↔ ((t : ℕ) → t < n → EachPaid k bs t)
   unfolding firstIn
   all-paid zero = (λ e t h. absurd (nowhere h), λ h. refl)
     where
@@ -366,6 +377,22 @@ module _ (k : Terms) (bs : List Book) where
     passing = (λ e. all-paid n .0 (named-none 11 _ e), λ h. none-named 11 _ (all-paid n .1 h));
     failing-so = some-below n;
   }
+
+-- where all are paid no book fails, there and below
+pub none-at : (k : Terms) (bs : List Book) (t : ℕ) → EachPaid k bs t → Every (λ b. failingOn k b t ≡ none) bs
+unfolding EachPaid Every
+none-at k [] t h = tt
+none-at k (b ∷ bs) t h = (paid-iff k b t .1 (h .0), none-at k bs t (h .1))
+
+first-none : (k : Terms) (b : Book) (t : ℕ) → ((u : ℕ) → u < t → Paid k b u) → firstOn k b t ≡ none
+unfolding firstOn
+first-none k b zero h = refl
+first-none k b (suc t) h = none-orElse (first-none k b t (λ u l. h u (omega arith))) (paid-iff k b t .1 (h t (omega arith)))
+
+pub none-in : (k : Terms) (bs : List Book) (t : ℕ) → ((u : ℕ) → u < t → EachPaid k bs u) → Every (λ b. firstOn k b t ≡ none) bs
+unfolding EachPaid Every
+none-in k [] t h = tt
+none-in k (b ∷ bs) t h = (first-none k b t (λ u l. h u l .0), none-in k bs t (λ u l. h u l .1))
 
 -- one book alone
 pub failing-one : (k : Terms) (b : Book) (t : ℕ) → failingIn k (b ∷ []) t ≡ failingOn k b t

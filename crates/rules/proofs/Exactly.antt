@@ -10,8 +10,8 @@ use lib.ListN.{length}
 use Rattle.rules.specs.Card.{Card}
 use Rattle.rules.specs.Units.{delaysOf}
 use Rattle.rules.specs.Past.{Past, counterAt}
-use Rattle.rules.specs.Entries.{Entry, viewOf, readAfter, moveOf, judgedAs, pastWith, pastOver}
-use Rattle.rules.specs.Delays.{find, delayRules}
+use Rattle.rules.specs.Entries.{Entry, viewOf, viewFor, ownFor, othersFor, readFor, moveOf, judgedAs, pastWith, pastOver}
+use Rattle.rules.specs.Delays.{lookBoth, find, delayRules}
 use Rattle.rules.specs.Account.{lpddr3}
 use Rattle.rules.specs.Clock.{booksOf}
 use Rattle.rules.specs.Checks.{Refusal, checks, entryChecks, endChecks, entryRefusal, endRefusal}
@@ -25,6 +25,7 @@ use Rattle.rules.proofs.Decided.{
   not-wrong,
   not-reserved,
   not-barred,
+  not-clash,
   decides-delays,
   decides-at,
   decides-below,
@@ -40,17 +41,19 @@ accepted-refused e = let z : _≡_ {A = ℕ} 0 1 = cc in omega arith
 module _ (card : Card) where
   -- ---- one entry, and the end
   entry-each : (past : Past) (e : Entry) → Each (entryChecks card past e) (entryReads card past e)
-  unfolding Each entryChecks checks viewOf entryReads
+  unfolding Each entryChecks checks viewFor viewOf entryReads
   entry-each past e =
-      let r = readAfter card past e in
+      let r = readFor card past e in
+      let own = ownFor card past e in
       decides-plain 5 _ _ (above-iff past (e .stamp))
       & decides-below lpddr3 (booksOf card past) (e .stamp)
       & decides-plain 6 _ _ (not-wrong r)
+      & decides-plain 24 _ _ (not-clash r)
       & decides-plain 7 _ _ (not-reserved r)
       & decides-plain 8 _ _ (λ h. h, λ h. h)
       & decides-plain 16 _ _ (not-barred r)
       & decides-plain 9 _ _ (λ h. h, λ h. h)
-      & decides-delays (find card past) (delayRules (delaysOf card) (judgedAs r) (moveOf r) (counterAt past)) (e .stamp)
+      & decides-delays (lookBoth (find card own) (find card (othersFor card past e))) (delayRules (delaysOf card) (judgedAs r) (moveOf r) (counterAt own)) (e .stamp)
       & decides-at lpddr3 (booksOf card (pastWith card past e)) (e .stamp)
       & tt
 

@@ -106,7 +106,7 @@ module _ (fs : List Field) (r : CardRight fs) where
       (moved (rw length-append (omega (arith, size-length f))) e) (shorter f (entriesBytes es ++ rest) l′))
 
 -- ---- the card in front, its newest field last in the file
-pub newest-bytes : (f : Field) (fs : List Field) (rest : List ℕ) → cardBytes (f ∷ fs) ++ rest ≡ cardBytes fs ++ (bytesOf f ++ rest)
+newest-bytes : (f : Field) (fs : List Field) (rest : List ℕ) → cardBytes (f ∷ fs) ++ rest ≡ cardBytes fs ++ (bytesOf f ++ rest)
 unfolding cardBytes
 newest-bytes f fs rest = append-assoc (cardBytes fs) (bytesOf f) rest
 

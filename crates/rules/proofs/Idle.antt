@@ -264,9 +264,13 @@ module _ (k : Terms) (b : Book) (t : ℕ) (l : Less (suc (b .clock t)) (b .refre
   abbrev now : ℕ → Option (ℕ × ℕ)
   now j = failing k (b .schedule) (idle (k .credit) (b .schedule) (ledgerOn (k .credit) b t) (b .clock t) j) (lastOn b t) (b .clock t + j) (t + j)
 
+  pub failing-idle : (j : ℕ) → failingOn k b (t + j) ≡ now j
+  unfolding failingOn
+  failing-idle j = rw (ledger-later j, last-later j, runs j)
+
   first-more : (j : ℕ) → firstOn k b (suc (t + suc j)) ≡ orElse (firstOn k b (suc (t + j))) (now (suc j))
-  unfolding firstOn failingOn
-  first-more j = rw (ledger-later (suc j), last-later (suc j), runs (suc j)) (ap (λ (n : ℕ). orElse (firstOn k b n) (now (suc j))) (add-suc t j))
+  unfolding firstOn
+  first-more j = rw (failing-idle (suc j)) (ap (λ (n : ℕ). orElse (firstOn k b n) (now (suc j))) (add-suc t j))
 
   pub first-idle : (j : ℕ) →
       firstOn k b (suc (t + j)) ≡ orElse (firstOn k b (suc t)) (firstIdle k (b .schedule) (ledgerOn (k .credit) b t) (lastOn b t) (b .clock t) t j)

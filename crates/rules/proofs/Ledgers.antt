@@ -1,5 +1,5 @@
--- The ledger that stands for a past at a cycle: moved on, and with one more entry, it stands for what the list's account says there, and it knows the
--- first failing cycle after it. And what a lent ledger gains when it is moved on, whatever it holds.
+-- The ledger that stands for a part's own entries at a cycle: moved on, and with one more entry, it stands for what the list's account says there, and it
+-- knows the first failing cycle after it. And what a lent ledger gains when it is moved on, whatever it holds.
 use Prim.Native.Nat.{ℕ, zero, suc, _+_, _-_, _≤_, _<_}
 use mathlib.Core.Path.{_≡_, refl, ap, sym, _∙_, subst}
 use mathlib.Core.Logic.{⊎-elim}
@@ -14,14 +14,14 @@ use borrow.Author.Tests.{le-leb, eq-eqb}
 use Rattle.rules.specs.Lists.{isOneOf}
 use Rattle.rules.specs.Card.{Card}
 use Rattle.rules.specs.Levels.{awake, powerDown, stopped, levelAfter}
-use Rattle.rules.specs.Past.{Taken, Past, levelAt, counterAt, isCounted, stampsWhere, countedStamps}
+use Rattle.rules.specs.Past.{Taken, Past, lastCycle, levelAt, counterAt, isCounted, stampsWhere, countedStamps}
 use Rattle.rules.specs.Folds.{orElse, firstOf}
-use Rattle.rules.specs.Entries.{Entry, readAfter, recordedAs, moveOf, taken, pastWith}
+use Rattle.rules.specs.Entries.{Entry, readAfter, recordedAs, moveOf, taken}
 use Rattle.rules.specs.Checks.{unless, named}
 use Rattle.rules.specs.Reading.{Above}
 use Rattle.rules.specs.Account.{Terms, lpddr3, Schedule, Beat, steady, takeOne, cycle, ledgerBefore, ledgerAfter, lastCounted, failing, Book, ledgerOn, lastOn, sinceOn, failingOn, firstOn, idle, firstIdle}
 use Rattle.rules.specs.Clock.{counts, clock, beatOf, scheduleOf, bookOf}
-use Rattle.rules.specs.Lent.{Ledger, numberOf, Effect, countedTo, ledgerTo, refreshedAt, atLevel, entered, failingTo, ledgerGood, moveRefusal, movedOn, lastCycle, ledgerAt}
+use Rattle.rules.specs.Lent.{Ledger, numberOf, Effect, countedTo, ledgerTo, refreshedAt, atLevel, entered, failingTo, ledgerGood, moveRefusal, movedOn, ledgerAt}
 use Rattle.rules.proofs.Tests.{lt-cases}
 use Rattle.rules.proofs.Biased.{ledger-biased}
 use Rattle.rules.proofs.Rounds.{AllBelow, Rising, Less, less-where, below-more}
@@ -196,7 +196,7 @@ last-here : (n : ℕ) (cs : List ℕ) → lastCounted (n ∷ cs) n ≡ n
 unfolding lastCounted
 last-here n cs = rw (le-leb n n (omega arith))
 
--- ---- the ledger that stands for a past as after cycle t
+-- ---- the ledger that stands for a part's own entries as after cycle t
 pub number-at : (card : Card) (past : Past) (t : ℕ) → numberOf (ledgerAt card past t) ≡ clock past t
 unfolding numberOf
 number-at card past t = omega (arith, clock-le past t)
@@ -302,7 +302,7 @@ module _ (card : Card) (past : Past) (s : ℕ) (from : lastCycle past ≤ s) (be
             rw (y, x) (sym until))
             (lt-cases s t)
 
--- ---- one more entry
+-- ---- one more of the part's own entries
 module _ (card : Card) (past : Past) (e : Entry) (up : Rising past) (o : Orderly card past) (a : Above past (e .stamp)) where
   abbrev x : Taken
   x = taken card past e
@@ -322,32 +322,31 @@ module _ (card : Card) (past : Past) (e : Entry) (up : Rising past) (o : Orderly
   stamps-less : Less (e .stamp) (countedStamps past)
   stamps-less = unfold countedStamps in less-where isCounted (e .stamp) past below
 
-  clock-with : (t : ℕ) → t ≤ e .stamp → clock (pastWith card past e) t ≡ clock past t
-  unfolding pastWith
+  clock-with : (t : ℕ) → t ≤ e .stamp → clock (x ∷ past) t ≡ clock past t
   clock-with t h = clock-other x past t (unfold taken in h)
 
-  numbers-with : map (clock (pastWith card past e)) (countedStamps (pastWith card past e)) ≡ cond is-counted (own ∷ nums) nums
-  unfolding countedStamps stampsWhere pastWith taken
+  numbers-with : map (clock (x ∷ past)) (countedStamps (x ∷ past)) ≡ cond is-counted (own ∷ nums) nums
+  unfolding countedStamps stampsWhere taken
   numbers-with = go is-counted
     where
-      older : map (clock (pastWith card past e)) (stampsWhere isCounted past) ≡ map (clock past) (stampsWhere isCounted past)
+      older : map (clock (x ∷ past)) (stampsWhere isCounted past) ≡ map (clock past) (stampsWhere isCounted past)
       older = clocks-other x past (stampsWhere isCounted past)
           (less-where isCounted (suc (x .stamp)) past (below-more (e .stamp) (suc (x .stamp)) past (unfold taken in omega arith) below))
 
-      go : (y : Bool) → map (clock (pastWith card past e)) (cond y (x .stamp ∷ stampsWhere isCounted past) (stampsWhere isCounted past))
+      go : (y : Bool) → map (clock (x ∷ past)) (cond y (x .stamp ∷ stampsWhere isCounted past) (stampsWhere isCounted past))
           ≡ cond y (clock past (e .stamp) ∷ map (clock past) (stampsWhere isCounted past)) (map (clock past) (stampsWhere isCounted past))
       go true = rw older (unfold taken in rw (clock-with (e .stamp) (omega arith)))
       go false = older
 
   counts-here : is-counted ≡ true → counts past (e .stamp) ≡ true
-  unfolding counts stopped Awake pastWith taken
+  unfolding counts stopped Awake taken
   counts-here h = rw (level-after past (e .stamp) below, taken-orderly card past e o .awakes .0 h)
 
   less-here : is-counted ≡ true → Less own nums
   less-here h = less-numbers past (e .stamp) (countedStamps past) (counts-here h) (refreshes-counted past up (o .awakes)) stamps-less
 
   -- before its stamp nothing changes
-  failing-with : (t : ℕ) → t < e .stamp → failingOn lpddr3 (bookOf card (pastWith card past e)) t ≡ failingOn lpddr3 (bookOf card past) t
+  failing-with : (t : ℕ) → t < e .stamp → failingOn lpddr3 (bookOf card (x ∷ past)) t ≡ failingOn lpddr3 (bookOf card past) t
   unfolding failingOn ledgerOn lastOn ledgerAfter bookOf scheduleOf
   failing-with t h = rw (clock-with t (omega arith), numbers-with) (go is-counted refl)
     where
@@ -366,14 +365,14 @@ module _ (card : Card) (past : Past) (e : Entry) (up : Rising past) (o : Orderly
       go true c = rw (ledger-ahead (lpddr3 .credit) s own (suc n) nums (earlier c), last-ahead own nums n (earlier c))
       go false c = refl
 
-  pub first-with : (t : ℕ) → t ≤ e .stamp → firstOn lpddr3 (bookOf card (pastWith card past e)) t ≡ firstOn lpddr3 (bookOf card past) t
+  pub first-with : (t : ℕ) → t ≤ e .stamp → firstOn lpddr3 (bookOf card (x ∷ past)) t ≡ firstOn lpddr3 (bookOf card past) t
   unfolding firstOn
   first-with zero h = refl
   first-with (suc t) h = rw (first-with t (omega arith), failing-with t (omega arith))
 
   -- at its stamp: what is due, then the refresh, then the level
-  pub entered-with : atLevel (levelAfter (moveOf (readAfter card past e)) (levelAt past)) (refreshedAt is-counted (ledgerAt card past (e .stamp))) ≡ ledgerAt card (pastWith card past e) (e .stamp)
-  unfolding atLevel levelAt ledgerOn sinceOn lastOn bookOf scheduleOf pastWith taken
+  pub entered-with : atLevel (levelAfter (moveOf (readAfter card past e)) (levelAt past)) (refreshedAt is-counted (ledgerAt card past (e .stamp))) ≡ ledgerAt card (x ∷ past) (e .stamp)
+  unfolding atLevel levelAt ledgerOn sinceOn lastOn bookOf scheduleOf taken
   entered-with = rw (clock-with (e .stamp) (omega arith), numbers-with) (go is-counted refl)
     where
       s : Schedule

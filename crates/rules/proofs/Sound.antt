@@ -4,26 +4,31 @@ use Prim.Native.Nat.{ℕ, suc, _+_, _-_, _≤_, _<_}
 use mathlib.Core.Path.{_≡_, refl, ap, sym, _∙_}
 use mathlib.Core.Logic.{⊎-elim}
 use mathlib.Core.Bool.{Bool, true, false, cond}
+use mathlib.Core.List.{List, [], _∷_}
 use mathlib.Core.Option.{Option, none, some}
 use native.Mathlib.Omega.{arith}
 use lib.Dec.{leb, ltb}
 use lib.IntN.{ℤ, pos, negsuc, subℕ}
 use borrow.Author.Tests.{leb-true, le-leb, ltb-true}
+use Rattle.rules.specs.Lists.{Every}
 use Rattle.rules.specs.Card.{Card}
 use Rattle.rules.specs.Registers.{mr2Good}
 use Rattle.rules.specs.Ranges.{cardGood}
+use Rattle.rules.specs.Whose.{isOf, parts}
 use Rattle.rules.specs.Folds.{firstOf}
 use Rattle.rules.specs.Levels.{stopped}
 use Rattle.rules.specs.Account.{lpddr3, Beat, steady, takeOne, idle, firstIdle, failing}
 use Rattle.rules.specs.Clock.{beatOf}
-use Rattle.rules.specs.Entries.{Entry}
+use Rattle.rules.specs.Entries.{Entry, whoseOf}
 use Rattle.rules.specs.Checks.{checks, valueGood}
 use Rattle.rules.specs.Delays.{means}
 use Rattle.rules.specs.Lent.{
   Ledger,
   numberOf,
   History,
+  Share,
   Lent,
+  hasPart,
   allStored,
   mr2sGood,
   owingGood,
@@ -34,11 +39,12 @@ use Rattle.rules.specs.Lent.{
   shareGood,
   lentGood,
   aboveLast,
+  notBehind,
   readIn,
   commandIn,
   moveIn,
   Effect,
-  effectIn,
+  effectOn,
   countedTo,
   ledgerTo,
   refreshedAt,
@@ -47,9 +53,12 @@ use Rattle.rules.specs.Lent.{
   ledgerWith,
   failingOf,
   failingTo,
+  failingsWith,
   stepRefusal,
   historyAfter,
   shareAfter,
+  withLedger,
+  shareWith,
   lentAfter,
   ledgerGood,
   moveRefusal,
@@ -58,6 +67,7 @@ use Rattle.rules.specs.Lent.{
 }
 use Rattle.rules.proofs.Tests.{lt-cases, both-true}
 use Rattle.rules.proofs.Biased.{take-biased, sub-below, sub-from, owing, failing-biased}
+use Rattle.rules.proofs.Filtered.{IsPart, every-at, all-parts, all-each}
 use Rattle.rules.proofs.Decided.{orElse-none, named-none, unless-none}
 use Rattle.rules.proofs.Idle.{idle-biased}
 use Rattle.rules.proofs.Closed.{owing-none}
@@ -66,37 +76,55 @@ use Rattle.rules.proofs.Stored.{stored-on, all-on, all-after}
 use Rattle.rules.proofs.Ledgers.{number-to}
 
 -- ---- the clauses of 13
+-- of a share
+pub record SoundShare (card : Card) (last : Option ℕ) (s : Share) : Type 0 where
+  pub mr2s : mr2sGood card s ≡ true
+  pub owing : owingGood (s .ledger .owing) ≡ true
+  pub stamps : stampsGood last s ≡ true
+  pub last-by : lastBy last (s .ledger .at) ≡ true
+  pub since : sinceGood (s .ledger) ≡ true
+  pub counter : leb (s .counter) 7 ≡ true
+
+module _ (card : Card) (last : Option ℕ) (s : Share) where
+  pub sound-share : shareGood card last s ≡ true → SoundShare card last s
+  unfolding shareGood
+  sound-share e =
+      let (upto-since, counter) = both-true _ _ e in
+      let (upto-last, since) = both-true _ _ upto-since in
+      let (upto-stamps, last-by) = both-true _ _ upto-last in
+      let (upto-owing, stamps) = both-true _ _ upto-stamps in
+      let (mr2s, owing) = both-true _ _ upto-owing in
+      record {
+        mr2s = mr2s;
+        owing = owing;
+        stamps = stamps;
+        last-by = last-by;
+        since = since;
+        counter = counter;
+      }
+
+  pub share-good-if : SoundShare card last s → shareGood card last s ≡ true
+  unfolding shareGood
+  share-good-if h = rw (h .mr2s, h .owing, h .stamps, h .last-by, h .since, h .counter)
+
+-- of a record: every part of the trace has such a share
 pub record Sound (l : Lent) : Type 0 where
   pub card : cardGood (l .card) ≡ true
-  pub mr2s : mr2sGood (l .card) (l .share) ≡ true
-  pub owing : owingGood (l .share .ledger .owing) ≡ true
-  pub stamps : stampsGood (l .last) (l .share) ≡ true
-  pub last : lastBy (l .last) (l .share .ledger .at) ≡ true
-  pub since : sinceGood (l .share .ledger) ≡ true
-  pub counter : leb (l .share .counter) 7 ≡ true
+  pub part : (p : ℕ) → IsPart (l .card) p → SoundShare (l .card) (l .last) (l .share p)
 
 pub sound : (l : Lent) → lentGood l ≡ true → Sound l
-unfolding lentGood shareGood
+unfolding lentGood hasPart
 sound l e =
-    let (card, share) = both-true _ _ e in
-    let (upto-since, counter) = both-true _ _ share in
-    let (upto-last, since) = both-true _ _ upto-since in
-    let (upto-stamps, last) = both-true _ _ upto-last in
-    let (upto-owing, stamps) = both-true _ _ upto-stamps in
-    let (mr2s, owing) = both-true _ _ upto-owing in
+    let (card, shares) = both-true _ _ e in
     record {
       card = card;
-      mr2s = mr2s;
-      owing = owing;
-      stamps = stamps;
-      last = last;
-      since = since;
-      counter = counter;
+      part = λ p i. sound-share (l .card) (l .last) (l .share p) (all-each (λ p. shareGood (l .card) (l .last) (l .share p)) (parts (l .card)) shares p i);
     }
 
 pub good-if : (l : Lent) → Sound l → lentGood l ≡ true
-unfolding lentGood shareGood
-good-if l s = rw (s .card, s .mr2s, s .owing, s .stamps, s .last, s .since, s .counter)
+unfolding lentGood hasPart
+good-if l s =
+    rw (s .card) (all-parts (λ p. shareGood (l .card) (l .last) (l .share p)) (parts (l .card)) (λ p i. share-good-if (l .card) (l .last) (l .share p) (s .part p i)))
 
 pub record SoundLedger (c : Card) (g : Ledger) : Type 0 where
   pub card : cardGood c ≡ true
@@ -115,9 +143,11 @@ module _ (card : Card) (g : Ledger) where
   unfolding ledgerGood
   ledger-good-if s = rw (s .card, s .owing, s .since)
 
--- a record's ledger
-pub ledger-good : (l : Lent) → lentGood l ≡ true → ledgerGood (l .card) (l .share .ledger) ≡ true
-ledger-good l e = let s = sound l e in ledger-good-if (l .card) (l .share .ledger) (record { card = s .card; owing = s .owing; since = s .since })
+-- each ledger of a record
+pub ledger-good : (l : Lent) → lentGood l ≡ true → (p : ℕ) → IsPart (l .card) p → ledgerGood (l .card) (l .share p .ledger) ≡ true
+ledger-good l e p i =
+    let s = sound l e in
+    ledger-good-if (l .card) (l .share p .ledger) (record { card = s .card; owing = s .part p i .owing; since = s .part p i .since })
 
 -- ---- the ledger
 -- not below minus the credit
@@ -237,39 +267,42 @@ module _ (card : Card) (g : Ledger) where
           s = sound-ledger card g good
 
 -- ---- a step
+none-each : {A : Type 0} (os : List (Option A)) → firstOf os ≡ none → Every (λ o. o ≡ none) os
+unfolding Every firstOf
+none-each [] n = tt
+none-each (o ∷ os) n = let (first, later) = orElse-none o (firstOf os) n in (first, none-each os later)
+
 -- what an entry that was taken has
 pub record StepPassed (l : Lent) (e : Entry) : Type 0 where
   pub good : lentGood l ≡ true
   pub above : aboveLast (l .last) (e .stamp) ≡ true
-  pub from : l .share .ledger .at ≤ e .stamp
+  pub from : (p : ℕ) → IsPart (l .card) p → l .share p .ledger .at ≤ e .stamp
   pub value : valueGood (l .card) (commandIn l e) ≡ true
-  pub paid : failingOf (beatOf (l .card)) (ledgerWith l e) ≡ none
+  pub paid : (p : ℕ) → IsPart (l .card) p → failingOf (beatOf (l .card)) (ledgerWith l e p) ≡ none
 
 module _ (l : Lent) (e : Entry) (n : stepRefusal l e ≡ none) where
   pub step-passed : StepPassed l e
-  unfolding stepRefusal checks firstOf commandIn
+  unfolding stepRefusal checks firstOf commandIn notBehind failingsWith hasPart
   step-passed =
       let (good, n₁) = orElse-none _ _ n in
       let (rises, n₂) = orElse-none _ _ n₁ in
       let (before, n₃) = orElse-none _ _ n₂ in
       let (wrong, n₄) = orElse-none _ _ n₃ in
-      let (reserved, n₅) = orElse-none _ _ n₄ in
-      let (state, n₆) = orElse-none _ _ n₅ in
-      let (permitted, n₇) = orElse-none _ _ n₆ in
-      let (value, n₈) = orElse-none _ _ n₇ in
-      let (delays, n₉) = orElse-none _ _ n₈ in
-      let (at, n₁₀) = orElse-none _ _ n₉ in
+      let (selects, n₅) = orElse-none _ _ n₄ in
+      let (reserved, n₆) = orElse-none _ _ n₅ in
+      let (state, n₇) = orElse-none _ _ n₆ in
+      let (permitted, n₈) = orElse-none _ _ n₇ in
+      let (value, n₉) = orElse-none _ _ n₈ in
+      let (delays, n₁₀) = orElse-none _ _ n₉ in
+      let (at, n₁₁) = orElse-none _ _ n₁₀ in
       let (above, from) = both-true _ _ (unless-none _ 5 rises) in
       record {
         good = unless-none _ 13 good;
         above = above;
-        from = leb-true (l .share .ledger .at) (e .stamp) from;
+        from = λ p i. leb-true (l .share p .ledger .at) (e .stamp) (all-each (λ p. leb (l .share p .ledger .at) (e .stamp)) (parts (l .card)) from p i);
         value = recorded-good (l .card) (readIn l e) (unless-none _ 9 value);
-        paid = named-none 11 _ at;
+        paid = every-at (λ o. o ≡ none) (λ p. failingOf (beatOf (l .card)) (ledgerWith l e p)) (parts (l .card)) (none-each _ (named-none 11 _ at));
       }
-
-  was : Sound l
-  was = sound l (step-passed .good)
 
   -- stamps that are not above the last are not above what comes after it
   before-it : (s : ℕ) → notAbove (l .last) s ≡ true → leb s (e .stamp) ≡ true
@@ -282,47 +315,87 @@ module _ (l : Lent) (e : Entry) (n : stepRefusal l e ≡ none) where
           let y : s ≤ t = unfold notAbove in leb-true s t b in
           le-leb s (e .stamp) (omega arith)
 
-  abbrev after : History
-  after = historyAfter (commandIn l e) (moveIn l e) (l .share .counter) (e .stamp) (l .share .mr2) (l .share .history)
+  -- ---- each part's share
+  module _ (p : ℕ) (i : IsPart (l .card) p) where
+    was : SoundShare (l .card) (l .last) (l .share p)
+    was = sound l (step-passed .good) .part p i
 
-  stamps-kept : allStored (λ a f. notAbove (some (e .stamp)) (f .stamp)) after ≡ true
-  unfolding notAbove
-  stamps-kept = stored-on (λ a f. notAbove (l .last) (f .stamp)) _ (l .share .history) after
-      (λ q h. all-after _ (commandIn l e) (moveIn l e) _ _ _ (l .share .history) q (le-leb (e .stamp) (e .stamp) (omega arith)) (all-on _ _ (λ f. before-it (f .stamp)) (l .share .history q) h))
-      (unfold stampsGood in was .stamps)
+    -- after an entry of its own
+    abbrev after : History
+    after = historyAfter (commandIn l e) (moveIn l e) (l .share p .counter) (e .stamp) (l .share p .mr2) (l .share p .history)
 
-  abbrev fits : ℕ → Bool
-  fits = mr2Good (l .card .period)
+    stamps-kept : allStored (λ a f. notAbove (some (e .stamp)) (f .stamp)) after ≡ true
+    unfolding notAbove
+    stamps-kept = stored-on (λ a f. notAbove (l .last) (f .stamp)) _ (l .share p .history) after
+        (λ q h. all-after _ (commandIn l e) (moveIn l e) _ _ _ (l .share p .history) q (le-leb (e .stamp) (e .stamp) (omega arith)) (all-on _ _ (λ f. before-it (f .stamp)) (l .share p .history q) h))
+        (unfold stampsGood in was .stamps)
 
-  mr2s-were : (fits (l .share .mr2) ≡ true) × (allStored (λ a f. cond (means a .lags) (fits (f .noted)) true) (l .share .history) ≡ true)
-  mr2s-were = both-true _ _ (unfold mr2sGood in was .mr2s)
+    abbrev fits : ℕ → Bool
+    fits = mr2Good (l .card .period)
 
-  notes-kept : allStored (λ a f. cond (means a .lags) (fits (f .noted)) true) after ≡ true
-  notes-kept = stored-on (λ a f. cond (means a .lags) (fits (f .noted)) true) _ (l .share .history) after
-      (λ q h. all-after _ (commandIn l e) (moveIn l e) _ _ _ (l .share .history) q (go (means (q .ask) .lags)) h) (mr2s-were .1)
-    where
-      go : (x : Bool) → cond x (fits (cond x (l .share .mr2) 0)) true ≡ true
-      go true = mr2s-were .0
-      go false = refl
+    mr2s-were : (fits (l .share p .mr2) ≡ true) × (allStored (λ a f. cond (means a .lags) (fits (f .noted)) true) (l .share p .history) ≡ true)
+    mr2s-were = both-true _ _ (unfold mr2sGood in was .mr2s)
 
-  pub ledger-kept : ledgerGood (l .card) (ledgerWith l e) ≡ true
-  unfolding ledgerWith
-  ledger-kept = entered-good (l .card) (l .share .ledger) (effectIn l e) (e .stamp) (ledger-good l (step-passed .good)) (step-passed .from) (step-passed .paid)
+    notes-kept : allStored (λ a f. cond (means a .lags) (fits (f .noted)) true) after ≡ true
+    notes-kept = stored-on (λ a f. cond (means a .lags) (fits (f .noted)) true) _ (l .share p .history) after
+        (λ q h. all-after _ (commandIn l e) (moveIn l e) _ _ _ (l .share p .history) q (go (means (q .ask) .lags)) h) (mr2s-were .1)
+      where
+        go : (x : Bool) → cond x (fits (cond x (l .share p .mr2) 0)) true ≡ true
+        go true = mr2s-were .0
+        go false = refl
+
+    pub ledger-kept : ledgerGood (l .card) (ledgerWith l e p) ≡ true
+    unfolding ledgerWith
+    ledger-kept =
+        entered-good (l .card) (l .share p .ledger) (effectOn l e p) (e .stamp) (ledger-good l (step-passed .good) p i) (step-passed .from p i) (step-passed .paid p i)
+
+    sound-kept : SoundLedger (l .card) (ledgerWith l e p)
+    sound-kept = sound-ledger (l .card) (ledgerWith l e p) ledger-kept
+
+    ledger-there : lastBy (some (e .stamp)) (ledgerWith l e p .at) ≡ true
+    unfolding lastBy ledgerWith entered atLevel
+    ledger-there = at-it (effectOn l e p .counted)
+      where
+        at-it : (x : Bool) → leb (e .stamp) (refreshedAt x (ledgerTo (beatOf (l .card)) (l .share p .ledger) (e .stamp)) .at) ≡ true
+        at-it true = unfold refreshedAt ledgerTo in le-leb (e .stamp) (e .stamp) (omega arith)
+        at-it false = unfold refreshedAt ledgerTo in le-leb (e .stamp) (e .stamp) (omega arith)
+
+    own-kept : SoundShare (l .card) (some (e .stamp)) (shareAfter (commandIn l e) (moveIn l e) (e .stamp) (ledgerWith l e p) (l .share p))
+    unfolding shareAfter
+    own-kept = record {
+      mr2s = unfold mr2sGood in rw (write-good (l .card) (commandIn l e) (l .share p .mr2) (step-passed .value) (mr2s-were .0), notes-kept);
+      owing = sound-kept .owing;
+      stamps = unfold stampsGood in stamps-kept;
+      last-by = ledger-there;
+      since = sound-kept .since;
+      counter = le-leb _ 7 (counter-step (commandIn l e) (moveIn l e) (l .share p .counter) (leb-true (l .share p .counter) 7 (was .counter)));
+    }
+
+    -- after any other
+    other-kept : SoundShare (l .card) (some (e .stamp)) (withLedger (ledgerWith l e p) (l .share p))
+    unfolding withLedger
+    other-kept = record {
+      mr2s = unfold mr2sGood in was .mr2s;
+      owing = sound-kept .owing;
+      stamps = unfold stampsGood notAbove in
+          stored-on (λ a f. notAbove (l .last) (f .stamp)) _ (l .share p .history) (l .share p .history) (λ q. all-on _ _ (λ f. before-it (f .stamp)) (l .share p .history q))
+          (unfold stampsGood in was .stamps);
+      last-by = ledger-there;
+      since = sound-kept .since;
+      counter = was .counter;
+    }
+
+    share-kept : SoundShare (l .card) (some (e .stamp)) (shareWith l e p)
+    unfolding shareWith
+    share-kept = go (isOf p (whoseOf (l .card) e))
+      where
+        go : (x : Bool) → SoundShare (l .card) (some (e .stamp))
+            (cond x (shareAfter (commandIn l e) (moveIn l e) (e .stamp) (ledgerWith l e p) (l .share p)) (withLedger (ledgerWith l e p) (l .share p)))
+        go true = own-kept
+        go false = other-kept
 
   pub good-kept : lentGood (lentAfter l e) ≡ true
-  unfolding lentAfter shareAfter
-  good-kept =
-      let g = sound-ledger (l .card) (ledgerWith l e) ledger-kept in
-      good-if (lentAfter l e) (record {
-        card = g .card;
-        mr2s = unfold mr2sGood in rw (write-good (l .card) (commandIn l e) (l .share .mr2) (step-passed .value) (mr2s-were .0), notes-kept);
-        owing = g .owing;
-        stamps = unfold stampsGood in stamps-kept;
-        last = unfold lastBy ledgerWith entered atLevel in at-it (effectIn l e .counted);
-        since = g .since;
-        counter = le-leb _ 7 (counter-step (commandIn l e) (moveIn l e) (l .share .counter) (leb-true (l .share .counter) 7 (was .counter)));
-      })
-    where
-      at-it : (x : Bool) → leb (e .stamp) (refreshedAt x (ledgerTo (beatOf (l .card)) (l .share .ledger) (e .stamp)) .at) ≡ true
-      at-it true = unfold refreshedAt ledgerTo in le-leb (e .stamp) (e .stamp) (omega arith)
-      at-it false = unfold refreshedAt ledgerTo in le-leb (e .stamp) (e .stamp) (omega arith)
+  good-kept = good-if (lentAfter l e) (unfold lentAfter in record {
+    card = sound l (step-passed .good) .card;
+    part = λ p i. rw i (share-kept p i);
+  })

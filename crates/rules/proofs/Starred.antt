@@ -1,4 +1,4 @@
--- The starred cases and the further ones, each as a file, by computation.
+-- The starred cases and the further ones, those of low clock-enable and those of two parts, each as a file, by computation.
 use mathlib.Core.Path.{_≡_, refl, ap, sym, _∙_}
 use mathlib.Core.List.{List, [], _∷_, _++_}
 use lib.ListN.{length}
@@ -26,11 +26,51 @@ use Rattle.rules.specs.Pins.{
   levels,
   enabled,
   encode,
+  encodePair,
 }
 use Rattle.rules.specs.Registers.{row, latencies, atCode, mr2Good, rlOf, wlOf, mr1Good, mayWrite}
-use Rattle.rules.specs.Levels.{depth, sameLevel, stopped, isFall, isRise, risesFrom, levelAfter, fallBy, fall, rise, readAt, readPins}
-use Rattle.rules.specs.Entries.{viewOf, read, readAfter, commandOf, recordedAs, moveOf, fallsAs, movesAs, judgedAs, taken, pastWith}
+use Rattle.rules.specs.Whose.{isOf, partOf, other, bySelects, whose, parts}
+use Rattle.rules.specs.Levels.{
+  depth,
+  sameLevel,
+  stopped,
+  isFall,
+  isRise,
+  risesFrom,
+  levelAfter,
+  plain,
+  fallBy,
+  fall,
+  rise,
+  readAt,
+  readPins,
+  seen,
+  selected,
+  readPair,
+  readAs,
+}
+use Rattle.rules.specs.Entries.{
+  viewOf,
+  read,
+  readAfter,
+  whoseOf,
+  partIn,
+  commandOf,
+  recordedAs,
+  moveOf,
+  fallsAs,
+  movesAs,
+  judgedAs,
+  taken,
+  ownFor,
+  othersFor,
+  viewFor,
+  readFor,
+  takenFor,
+  pastWith,
+}
 use Rattle.rules.specs.Past.{
+  ofPart,
   registerAfter,
   register,
   mr2At,
@@ -60,17 +100,20 @@ use Rattle.rules.specs.Delays.{
   means,
   found,
   find,
+  lookBoth,
+  turned,
   idleUse,
   precharged,
   without,
   from,
   lagging,
+  across,
   rule,
   delayRules,
 }
-use Rattle.rules.specs.Account.{lpddr3, every, fallen, nextAfter, takeOne, failing}
+use Rattle.rules.specs.Account.{lpddr3, every, fallen, nextAfter, takeOne, failing, earlier, earliest}
 use Rattle.rules.specs.Clock.{beatOf}
-use Rattle.rules.specs.Checks.{refusal, unless, named, isWrong, isReserved, isBarred, valueGood, checks, above, notBelow}
+use Rattle.rules.specs.Checks.{refusal, unless, named, isWrong, isReserved, isBarred, isClash, valueGood, checks, above, notBelow}
 use Rattle.rules.specs.Ranges.{within, periodGood, groupsGood, trefiGood, timingGood, timings, sleepTimings}
 use Rattle.rules.specs.Form.{
   bytesOf,
@@ -99,15 +142,16 @@ use Rattle.rules.specs.Form.{
   numberAt,
   timingAt,
   cardOf,
+  gapGood,
   fieldGood,
   entryOf,
   endOf,
 }
-use Rattle.rules.specs.Verdict.{refreshCount}
+use Rattle.rules.specs.Verdict.{sum, refreshCount}
 use Rattle.rules.specs.File.{Judged, begun, orRefused, cardStep, closing, judgeFile}
 use Rattle.rules.specs.Writer.{bigEndian, fieldBytes, entryBytes}
-use Rattle.rules.specs.Lines.{digits, decimal, signed, nameOf, showsBank, entryLine, entryLines, ledgerParts, verdictLine, linesOf}
-use Rattle.rules.specs.Lent.{numberOf, effectOf, countedTo, refreshedAt, atLevel, failingOf, fresh}
+use Rattle.rules.specs.Lines.{digits, decimal, signed, nameOf, showsBank, shownPart, entryLine, entryLines, ledgerParts, verdictLine, linesOf}
+use Rattle.rules.specs.Lent.{numberOf, noEffect, countedTo, refreshedAt, atLevel, failingOf, freshShare}
 use Rattle.rules.specs.Bench.{
   timing,
   onlyIf,
@@ -115,6 +159,7 @@ use Rattle.rules.specs.Bench.{
   benchAt,
   bench,
   sleeper,
+  pair,
   timingFields,
   cardFile,
   entriesFile,
@@ -125,6 +170,7 @@ use Rattle.rules.specs.Bench.{
   prints,
   measures,
   writes,
+  writesTo,
   Shown,
   accepts,
   _at_,
@@ -135,17 +181,21 @@ use Rattle.rules.specs.Bench.{
   _low_,
   sevenRefreshes,
   sleeping,
+  _at₀_,
+  _at₁_,
+  bothOpen,
+  paired,
 }
 use Rattle.rules.proofs.Tests.{_&_}
 use Rattle.rules.proofs.Idle.{owedAt, next19, next20, after20, firstNext}
 use Rattle.rules.proofs.Clocked.{relabel}
 use Rattle.rules.proofs.Closed.{biased, ledgerClosed, failingClosed}
 use Rattle.rules.proofs.Walks.{headBy, entryBy, endBy, byHeadBy, stepBy, fileBy, judgedBy}
-use Rattle.rules.proofs.Computed.{ledgerThen, ledgerOver, entryFrom, endFrom, computing, computed, computed-judged}
+use Rattle.rules.proofs.Computed.{effectFor, ledgerThen, ledgerOver, failingsFrom, failingsAt, entryFrom, endFrom, owingsFrom, computing, computed, computed-judged}
 
 -- names every definition that a case computes with
 unfoldable pub opened : Unit {0}
-unfolding Every all isOneOf when bits on bit roundedUp n interval rowCycle delaysOf code bare carries kindOf bankOf apOf is banks CAr CAf byLevels kindAt run maRuns opRuns bankRuns rowRuns columnRuns gathered scattered listedMA ofKind decode levels enabled encode row latencies atCode mr2Good rlOf wlOf mr1Good mayWrite depth sameLevel stopped isFall isRise risesFrom levelAfter fallBy fall rise readAt readPins read readAfter commandOf recordedAs moveOf fallsAs movesAs judgedAs taken pastWith levelAt registerAfter register mr2At counterAfter counterAt bankAt opens precharges closes openAfter isOpen isCounted stampsWhere countedStamps commandCount allClosed goes stateGood orElse firstOf latest back permitted permittedBy bound firstBroken latestOf laggingOf fourthOf latestIf latestMove to means found find idleUse precharged without from lagging rule delayRules lpddr3 every fallen nextAfter takeOne failing beatOf refusal unless named isWrong isReserved isBarred valueGood viewOf checks above notBelow within periodGood groupsGood trefiGood timingGood timings sleepTimings bytesOf sizeOf numberFrom number _upTo_ groups lastTag endsGroup beginsGroup cardWhole ofTrace mayFollow mayCome _of_ lengths isListed lengthGood valued sized headOf timingOf valueOf has numberAt timingAt cardOf fieldGood entryOf endOf refreshCount begun orRefused cardStep closing bigEndian fieldBytes entryBytes digits decimal signed nameOf showsBank entryLine entryLines ledgerParts verdictLine numberOf effectOf countedTo refreshedAt atLevel failingOf fresh accepts timing onlyIf benchWith benchAt bench sleeper timingFields cardFile entriesFile endFile file _at_ eightRefreshes fourActs starred further _low_ sevenRefreshes sleeping owedAt next19 next20 after20 firstNext relabel biased ledgerClosed failingClosed headBy entryBy endBy byHeadBy stepBy fileBy judgedBy ledgerThen ledgerOver entryFrom endFrom computing computed
+unfolding Every all isOneOf when bits on bit roundedUp n interval rowCycle delaysOf code bare carries kindOf bankOf apOf is banks CAr CAf byLevels kindAt run maRuns opRuns bankRuns rowRuns columnRuns gathered scattered listedMA ofKind decode levels enabled encode encodePair row latencies atCode mr2Good rlOf wlOf mr1Good mayWrite depth sameLevel stopped isFall isRise risesFrom levelAfter fallBy fall rise readAt readPins seen selected readPair readAs isOf partOf other bySelects whose parts ofPart read readAfter whoseOf partIn ownFor othersFor viewFor readFor commandOf recordedAs moveOf fallsAs movesAs judgedAs taken takenFor pastWith levelAt registerAfter register mr2At counterAfter counterAt bankAt opens precharges closes openAfter isOpen isCounted stampsWhere countedStamps commandCount allClosed goes stateGood orElse firstOf latest back permitted permittedBy bound firstBroken latestOf laggingOf fourthOf latestIf latestMove to means found find lookBoth turned idleUse precharged without from lagging across rule delayRules lpddr3 every fallen nextAfter takeOne failing earlier earliest beatOf refusal unless named isWrong isReserved isBarred isClash valueGood viewOf checks above notBelow within periodGood groupsGood trefiGood timingGood timings sleepTimings bytesOf sizeOf numberFrom number _upTo_ groups lastTag endsGroup beginsGroup cardWhole ofTrace mayFollow mayCome _of_ lengths isListed lengthGood valued sized headOf timingOf valueOf has numberAt timingAt cardOf gapGood fieldGood entryOf endOf sum refreshCount begun orRefused cardStep closing bigEndian fieldBytes entryBytes digits decimal signed nameOf showsBank shownPart entryLine entryLines ledgerParts verdictLine numberOf noEffect countedTo refreshedAt atLevel failingOf freshShare accepts timing onlyIf benchWith benchAt bench sleeper pair timingFields cardFile entriesFile endFile file _at_ eightRefreshes fourActs starred further _low_ sevenRefreshes sleeping _at₀_ _at₁_ bothOpen paired owedAt next19 next20 after20 firstNext relabel biased ledgerClosed failingClosed headBy entryBy endBy byHeadBy stepBy fileBy judgedBy effectFor ledgerThen ledgerOver failingsFrom failingsAt entryFrom endFrom owingsFrom computing computed
 opened = tt
 
 -- a case whose verdict is computed with the account in closed form
@@ -154,6 +204,7 @@ Computes (judges bs v) = computed bs .verdict ≡ v
 Computes (prints bs ls) = entryLines (computed bs .past) ++ verdictLine (computed bs .verdict) ≡ ls
 Computes (measures bs n) = length bs ≡ n
 Computes (writes c p) = (encode c ≡ p) × (decode p ≡ good c)
+Computes (writesTo p c x) = (encodePair p c ≡ x) × (readPair x ≡ plain (good c))
 
 shown : (c : Case) → Computes c → Shown c
 unfolding Shown Computes judgeFile linesOf
@@ -161,6 +212,7 @@ shown (judges bs v) e = ap (λ (j : Judged). j .verdict) (sym (computed-judged b
 shown (prints bs ls) e = ap (λ (j : Judged). entryLines (j .past) ++ verdictLine (j .verdict)) (sym (computed-judged bs)) ∙ e
 shown (measures bs n) e = e
 shown (writes c p) e = e
+shown (writesTo p c x) e = e
 
 all-shown : (cs : List Case) → Every Computes cs → Every Shown cs
 unfolding Every
@@ -184,6 +236,14 @@ sleeping-computes =
     refl & refl & refl & refl & refl & refl & refl & refl & refl & refl & refl & refl & refl & refl & refl & refl & refl & refl & refl & refl &
     refl & refl & tt
 
+paired-computes : Every Computes paired
+unfolding opened Computes
+paired-computes =
+    refl & refl & refl & refl & refl & refl & refl & refl & refl & refl & refl & refl & refl & refl & refl & refl & refl & refl & refl & refl &
+    refl & refl & refl & refl & refl & refl & refl & refl & refl & refl & refl & refl & refl & refl & refl & refl & refl & refl & refl & refl &
+    refl & refl & refl & refl &
+    (refl, refl) & (refl, refl) & (refl, refl) & (refl, refl) & refl & tt
+
 pub starred-hold : Every Shown starred
 starred-hold = all-shown starred starred-computes
 
@@ -192,3 +252,6 @@ further-hold = all-shown further further-computes
 
 pub sleeping-hold : Every Shown sleeping
 sleeping-hold = all-shown sleeping sleeping-computes
+
+pub paired-hold : Every Shown paired
+paired-hold = all-shown paired paired-computes

@@ -1,4 +1,4 @@
--- What the histories of an accepted past hold passes refusal 13's tests: no stamp is above the last entry's, and the MR2 values noted are good.
+-- What the histories of a part's entries in an accepted past hold passes refusal 13's tests: no stamp is above the last entry's, and the MR2 values noted are good.
 use Prim.Native.Nat.{ℕ, zero, suc}
 use mathlib.Core.Path.{_≡_, refl}
 use mathlib.Core.Bool.{Bool, true, false, cond}
@@ -14,7 +14,8 @@ use Rattle.rules.specs.Commands.{Command, banks}
 use Rattle.rules.specs.Levels.{Move}
 use Rattle.rules.specs.Registers.{mr2Good}
 use Rattle.rules.specs.Ranges.{cardGood}
-use Rattle.rules.specs.Past.{Past, mr2At}
+use Rattle.rules.specs.Whose.{isOf}
+use Rattle.rules.specs.Past.{Past, ofPart, lastCycle, mr2At}
 use Rattle.rules.specs.Folds.{Found}
 use Rattle.rules.specs.Delays.{
   Ask,
@@ -41,9 +42,10 @@ use Rattle.rules.specs.Delays.{
   Meaning,
   means,
 }
-use Rattle.rules.specs.Lent.{History, asks, allStored, notAbove, remembered, historyAfter, lastOf, lastCycle, historyOf, AllTaken}
+use Rattle.rules.specs.Lent.{History, asks, allStored, notAbove, remembered, historyAfter, lastOf, historyOf, AllTaken}
 use Rattle.rules.proofs.Tests.{both-true}
 use Rattle.rules.proofs.Rounds.{AllBelow, Rising}
+use Rattle.rules.proofs.Filtered.{below-part}
 use Rattle.rules.proofs.Taken.{below-last, mr2-good}
 
 module _ {A : Type 0} (p : A → Bool) where
@@ -126,21 +128,28 @@ module _ (card : Card) where
   not-above s [] b q = unfold all in refl
   not-above s (e ∷ t) b q = all-after (λ f. leb (f .stamp) s) (e .cmd) (e .move) _ _ _ (historyOf card t) q (le-leb (e .stamp) s (omega arith)) (not-above s t (b .1) q)
 
-  pub stamps-stored : (past : Past) → Rising past → allStored (λ a f. notAbove (lastOf past) (f .stamp)) (historyOf card past) ≡ true
+  pub stamps-stored : (p : ℕ) (past : Past) → Rising past → allStored (λ a f. notAbove (lastOf past) (f .stamp)) (historyOf card (ofPart p past)) ≡ true
   unfolding lastOf notAbove
-  stamps-stored [] r = stored-of _ (historyOf card []) (λ q. unfold historyOf all in refl)
-  stamps-stored (e ∷ t) r = stored-of _ (historyOf card (e ∷ t)) (not-above (e .stamp) (e ∷ t) (unfold lastCycle in below-last (e ∷ t) r))
+  stamps-stored p [] r = stored-of _ (historyOf card (ofPart p [])) (λ q. unfold ofPart historyOf all in refl)
+  stamps-stored p (e ∷ t) r = stored-of _ (historyOf card (ofPart p (e ∷ t)))
+      (not-above (e .stamp) (ofPart p (e ∷ t)) (below-part p _ (e ∷ t) (unfold lastCycle in below-last (e ∷ t) r)))
 
-  pub noted-good : cardGood card ≡ true → (past : Past) → AllTaken card past → (q : Question) →
-      all (λ f. cond (means (q .ask) .lags) (mr2Good (card .period) (f .noted)) true) (historyOf card past q) ≡ true
-  unfolding historyOf AllTaken
-  noted-good good [] t q = unfold all in refl
-  noted-good good (e ∷ past) t q = all-after _ (e .cmd) (e .move) _ _ _ (historyOf card past) q (go (means (q .ask) .lags)) (noted-good good past (t .1) q)
+  abbrev Noted : Past → Question → Type 0
+  Noted own q = all (λ f. cond (means (q .ask) .lags) (mr2Good (card .period) (f .noted)) true) (historyOf card own q) ≡ true
+
+  pub noted-good : cardGood card ≡ true → (p : ℕ) (past : Past) → AllTaken card past → (q : Question) → Noted (ofPart p past) q
+  unfolding historyOf AllTaken ofPart
+  noted-good good p [] t q = unfold all in refl
+  noted-good good p (e ∷ past) t q = next (isOf p (e .whose)) (noted-good good p past (t .1) q)
     where
-      go : (x : Bool) → cond x (mr2Good (card .period) (cond x (mr2At card past) 0)) true ≡ true
-      go true = mr2-good card good past (t .1)
+      go : (x : Bool) → cond x (mr2Good (card .period) (cond x (mr2At card (ofPart p past)) 0)) true ≡ true
+      go true = mr2-good card good p past (t .1)
       go false = refl
 
-  pub mr2s-stored : cardGood card ≡ true → (past : Past) → AllTaken card past →
-      allStored (λ a f. cond (means a .lags) (mr2Good (card .period) (f .noted)) true) (historyOf card past) ≡ true
-  mr2s-stored good past t = stored-of _ (historyOf card past) (noted-good good past t)
+      next : (y : Bool) → Noted (ofPart p past) q → Noted (cond y (e ∷ ofPart p past) (ofPart p past)) q
+      next true h = all-after _ (e .cmd) (e .move) _ _ _ (historyOf card (ofPart p past)) q (go (means (q .ask) .lags)) h
+      next false h = h
+
+  pub mr2s-stored : cardGood card ≡ true → (p : ℕ) (past : Past) → AllTaken card past →
+      allStored (λ a f. cond (means a .lags) (mr2Good (card .period) (f .noted)) true) (historyOf card (ofPart p past)) ≡ true
+  mr2s-stored good p past t = stored-of _ (historyOf card (ofPart p past)) (noted-good good p past t)

@@ -1,12 +1,12 @@
--- The table of the card's groups of tags. What the proofs ask of it is three computed tests; a row more needs no other proof.
+-- The table of the card's groups of tags. What the proofs ask of it is two computed tests; a row more needs no other proof.
 use Prim.Native.Nat.{ℕ, suc, _≤_, _<_}
-use mathlib.Core.Path.{_≡_, refl, _∙_}
+use mathlib.Core.Path.{_≡_, refl}
 use mathlib.Core.Logic.{_⊎_, inl, inr, ⊎-elim}
-use mathlib.Core.Bool.{Bool, true, false, _&&_, _||_, or-false}
-use mathlib.Core.List.{List, [], _∷_, tail}
+use mathlib.Core.Bool.{Bool, true, false, _&&_, _||_}
+use mathlib.Core.List.{List, [], _∷_}
 use native.Mathlib.Omega.{arith}
 use lib.Dec.{leb, ltb, eqb}
-use borrow.Author.Tests.{leb-true, ltb-true, ne-eqb}
+use borrow.Author.Tests.{leb-true, ltb-true}
 use Rattle.rules.specs.Lists.{all}
 use Rattle.rules.specs.Form.{Group, _upTo_, groups, endsGroup, beginsGroup}
 use Rattle.rules.proofs.Tests.{eq-cases, both-true}
@@ -23,14 +23,10 @@ table-proper : all proper groups ≡ true
 unfolding all proper groups _upTo_
 table-proper = refl
 
--- none ends before 18, and the later ones not at 18
+-- none ends before 18
 table-high : all (λ g. leb 18 (g .last)) groups ≡ true
 unfolding all groups _upTo_
 table-high = refl
-
-later-high : all (λ g. ltb 18 (g .last)) (tail groups) ≡ true
-unfolding all groups _upTo_
-later-high = refl
 
 -- a tag of one of these groups
 unfoldable pub Within : List Group → ℕ → Type 0
@@ -76,11 +72,6 @@ high-in (g ∷ gs) h t e = ⊎-elim
     (λ (q : (g .last ≡ t → ⊥) × (eqb (g .last) t ≡ false)). high-in gs (all-both (λ g. leb 18 (g .last)) g gs h .1) t (rw (q .1) at e))
     (eq-cases (g .last) t)
 
-none-low : (gs : List Group) → all (λ g. ltb 18 (g .last)) gs ≡ true → (t : ℕ) → t ≤ 18 → endsGroup gs t ≡ false
-unfolding endsGroup
-none-low [] h t l = refl
-none-low (g ∷ gs) h t l = rw (ne-eqb (g .last) t (omega (arith, ltb-true 18 (g .last) (all-both (λ g. ltb 18 (g .last)) g gs h .0)))) (none-low gs (all-both (λ g. ltb 18 (g .last)) g gs h .1) t l)
-
 -- ---- of the table
 pub begins-within : (t : ℕ) → beginsGroup groups t ≡ true → Within groups t
 begins-within = begins-in groups table-proper
@@ -97,10 +88,3 @@ first-within = inl (omega arith, omega arith)
 
 pub ends-high : (t : ℕ) → endsGroup groups t ≡ true → 18 ≤ t
 ends-high = high-in groups table-high
-
--- up to 18 the table has one end
-pub ends-18 : (t : ℕ) → t ≤ 18 → endsGroup groups t ≡ eqb 18 t
-ends-18 t l = first-end t ∙ rw (none-low (tail groups) later-high t l) (or-false (eqb 18 t))
-  where
-    first-end : (t : ℕ) → endsGroup groups t ≡ (eqb 18 t || endsGroup (tail groups) t)
-    first-end t = unfold endsGroup groups _upTo_ in refl

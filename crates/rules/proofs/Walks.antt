@@ -4,18 +4,20 @@ use Prim.Native.Nat.{ℕ, zero, suc, _+_, _*_}
 use mathlib.Core.Path.{_≡_, refl, ap, sym, _∙_}
 use mathlib.Core.Logic.{_⊎_, inl, inr}
 use mathlib.Core.Bool.{Bool, true, false, cond}
-use mathlib.Core.List.{List, [], _∷_, _++_}
+use mathlib.Core.List.{List, [], _∷_, _++_, append-assoc}
 use mathlib.Core.Option.{Option, none, some}
+use native.Mathlib.Omega.{arith}
 use lib.Dec.{eqb}
-use lib.ListN.{length}
+use lib.ListN.{length, length-append}
 use borrow.Author.Tests.{eqb-true}
 use Rattle.rules.specs.Card.{Card}
-use Rattle.rules.specs.Past.{Past, commandCount}
+use Rattle.rules.specs.Past.{Taken, Past, commandCount}
 use Rattle.rules.specs.Entries.{Entry, pastWith}
 use Rattle.rules.specs.Checks.{Refusal, entryRefusal, endRefusal}
 use Rattle.rules.specs.Verdict.{refreshCount, ledgersAt}
 use Rattle.rules.specs.Form.{Field, bytesOf, sizeOf, ofTrace, mayCome, lengthGood, Head, whole, cut, badTag, badLength, valued, sized, headOf, cardOf, fieldGood, entryOf, endOf}
 use Rattle.rules.specs.File.{FileVerdict, accepted, refused, Step, goesOn, ends, orRefused, cardStep, entryStep, acceptedAt, closing, endStep, byHead, begun, stepOf, Judged, fileFrom, judged}
+use Rattle.rules.specs.FileReading.{cardBytes}
 use Rattle.rules.proofs.FileHeads.{by-value}
 
 -- which tag may come; what refuses an entry, and the past behind it; what refuses an end, and the verdict there
@@ -68,7 +70,7 @@ defined = record {
   entry = entryRefusal;
   next = pastWith;
   end = endRefusal;
-  verdict = λ card past end. accepted (commandCount past) (refreshCount past) (ledgersAt card past end);
+  verdict = λ card past end. accepted (commandCount past) (refreshCount card past) (ledgersAt card past end);
 }
 
 defined-step : (fs : List Field) (past : Past) (at : ℕ) (bs : List ℕ) → stepBy defined fs past at bs ≡ stepOf fs past at bs
@@ -277,3 +279,80 @@ module _ (a b : Judge) (At : List Field → Past → ℕ → List ℕ → Type 0
     pub agree : (bytes : List ℕ) → At [] [] 0 bytes → (judgedBy a bytes ≡ judgedBy b bytes) ⊎ Moved (judgedBy b bytes)
     unfolding judgedBy
     agree bytes h = walk (suc (length bytes)) [] [] 0 bytes h
+
+-- ---- up to a place before the first entry, the bytes are those of the card's fields, and the offset is their number
+pub record Place (bytes : List ℕ) (fs : List Field) (past : Past) (at : ℕ) (bs : List ℕ) : Type 0 where
+  pub split : begun past ≡ false → bytes ≡ cardBytes fs ++ bs
+  pub offset : begun past ≡ false → at ≡ length (cardBytes fs)
+
+module _ {bytes : List ℕ} where
+  pub place-start : Place bytes [] [] 0 bytes
+  unfolding cardBytes
+  place-start = record { split = λ b. refl; offset = λ b. refl }
+
+  pub place-card : (fs : List Field) (past : Past) (at : ℕ) (bs : List ℕ) → Place bytes fs past at bs → (f : Field) (rest : List ℕ) → bs ≡ bytesOf f ++ rest →
+      Place bytes (f ∷ fs) past (at + sizeOf f) rest
+  unfolding cardBytes
+  place-card fs past at bs p f rest e = record {
+    split = λ b. p .split b ∙ ap (λ (l : List ℕ). cardBytes fs ++ l) e ∙ sym (append-assoc (cardBytes fs) (bytesOf f) rest);
+    offset = λ b. longer (p .offset b);
+  }
+    where
+      longer : at ≡ length (cardBytes fs) → at + sizeOf f ≡ length (cardBytes fs ++ bytesOf f)
+      longer e = rw (length-append, e) (unfold sizeOf bytesOf in omega arith)
+
+  pub place-entry : (fs : List Field) (e : Taken) (past : Past) (at : ℕ) (bs : List ℕ) → Place bytes fs (e ∷ past) at bs
+  place-entry fs e past at bs = record { split = λ b. absurd (never b); offset = λ b. absurd (never b) }
+    where
+      never : begun (e ∷ past) ≡ false → ⊥
+      never b = let q : true ≡ false = unfold begun in b in let z : _≡_ {A = ℕ} 0 1 = cc in omega arith
+
+-- ---- what every entry that is taken keeps, the entries taken of a file have
+module _ (j : Judge) (P : Past → Type 0) (next : (card : Card) (past : Past) (e : Entry) → P past → P (j .next card past e)) where
+  abbrev Has : Step → Type 0
+  Has (goesOn fs past at rest) = P past
+  Has (ends v) = Unit {0}
+
+  module _ (fs : List Field) (past : Past) (at : ℕ) (p : P past) where
+    unless-refused : (o : Option Refusal) (s : Step) → Has s → Has (orRefused at o s)
+    unfolding orRefused
+    unless-refused none s h = h
+    unless-refused (some x) s h = tt
+
+    has-closed : (v : FileVerdict) (n : ℕ) (rest : List ℕ) → Has (closing v n rest)
+    unfolding closing
+    has-closed v n [] = tt
+    has-closed v n (b ∷ bs) = tt
+
+    has-card : (f : Field) (rest : List ℕ) → Has (cardStep fs past at f rest)
+    unfolding cardStep
+    has-card f rest = go (fieldGood fs f)
+      where
+        go : (x : Bool) → Has (cond x (goesOn (f ∷ fs) past (at + sizeOf f) rest) (ends (refused 4 0 at 0)))
+        go true = p
+        go false = tt
+
+    has-step : (h : Head) → Has (byHeadBy j fs past at h)
+    unfolding byHeadBy
+    has-step cut = tt
+    has-step badTag = tt
+    has-step badLength = tt
+    has-step (whole f rest) = go (eqb (f .tag) 32) (eqb (f .tag) 33)
+      where
+        go : (x y : Bool) → Has (pick j fs past at f rest x y)
+        go true y = unfold entryBy in unless-refused _ _ (next (cardOf fs) past (entryOf f) p)
+        go false true = unfold endBy in unless-refused _ _ (has-closed _ _ rest)
+        go false false = has-card f rest
+
+  has-file : (k : ℕ) (fs : List Field) (past : Past) (at : ℕ) (bs : List ℕ) → P past → P (fileBy j k fs past at bs .past)
+  has-file zero fs past at bs p = unfold fileBy in p
+  has-file (suc k) fs past at bs p = rw (by-step j k fs past at bs) (go (stepBy j fs past at bs) (unfold stepBy in has-step fs past at p _) (λ fs′ past′ at′ rest. has-file k fs′ past′ at′ rest))
+    where
+      go : (s : Step) → Has s → ((fs′ : List Field) (past′ : Past) (at′ : ℕ) (rest : List ℕ) → P past′ → P (fileBy j k fs′ past′ at′ rest .past)) →
+          P (behind (fileBy j k) past s .past)
+      go (goesOn fs′ past′ at′ rest) h ih = unfold behind in ih fs′ past′ at′ rest h
+      go (ends v) h ih = unfold behind in p
+
+  pub all-have : (bytes : List ℕ) → P [] → P (judgedBy j bytes .past)
+  unfolding judgedBy
+  all-have bytes p = has-file (suc (length bytes)) [] [] 0 bytes p

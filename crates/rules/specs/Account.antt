@@ -122,6 +122,16 @@ unfoldable pub firstIn : Terms → List Book → ℕ → Option (ℕ × ℕ)
 firstIn k bs zero = none
 firstIn k bs (suc t) = orElse (firstIn k bs t) (failingIn k bs t)
 
+-- the one with the lower cycle; at one cycle the first
+unfoldable pub earlier : Option (ℕ × ℕ) → Option (ℕ × ℕ) → Option (ℕ × ℕ)
+earlier none y = y
+earlier (some x) none = some x
+earlier (some x) (some y) = cond (leb (x .1) (y .1)) (some x) (some y)
+
+unfoldable pub earliest : List (Option (ℕ × ℕ)) → Option (ℕ × ℕ)
+earliest [] = none
+earliest (x ∷ xs) = earlier x (earliest xs)
+
 -- ---- idle time
 -- the ledger z stands as after number n; j counted cycles later, with no counted refresh since
 unfoldable pub idle : (credit : ℕ) → Schedule → ℤ → (n j : ℕ) → ℤ

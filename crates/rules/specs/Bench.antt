@@ -6,8 +6,9 @@ use mathlib.Core.List.{List, [], _∷_, _++_}
 use lib.IntN.{ℤ, pos, negsuc}
 use lib.ListN.{length, take}
 use Rattle.rules.specs.Card.{Timing, Card}
-use Rattle.rules.specs.Commands.{Command, nop, mrw, refpb, refab, act, rd, wr, pre, prea}
-use Rattle.rules.specs.Pins.{good, decode, enabled, encode}
+use Rattle.rules.specs.Commands.{Command, nop, mrw, mrr, refpb, refab, act, rd, wr, pre, prea}
+use Rattle.rules.specs.Pins.{good, decode, enabled, encode, encodePair}
+use Rattle.rules.specs.Levels.{plain, readPair}
 use Rattle.rules.specs.Entries.{Entry, entry}
 use Rattle.rules.specs.Lists.{when}
 use Rattle.rules.specs.Ranges.{timings, sleepTimings}
@@ -22,9 +23,9 @@ unfoldable pub onlyIf : Bool → Timing → Timing
 onlyIf true x = x
 onlyIf false x = timing 0 0
 
--- with another period and starting MR2, and with tags 19 to 22 if it sleeps
-unfoldable pub benchWith : (period mr2 : ℕ) → (sleeps : Bool) → Card
-benchWith p v s = record {
+-- with another period and starting MR2, with tags 19 to 22 if it sleeps, and with tag 25 and this gap if it is of two parts
+unfoldable pub benchWith : (period mr2 : ℕ) → (sleeps paired : Bool) → (gap : ℕ) → Card
+benchWith p v s d g = record {
   period = p;
   mr2 = v;
   groups = 8192;
@@ -48,17 +49,23 @@ benchWith p v s = record {
   txp = onlyIf s (timing 10000 3);
   tckesr = onlyIf s (timing 15000 3);
   txsr = onlyIf s (timing 140000 2);
+  paired = d;
+  gap = g;
 }
 
 unfoldable pub benchAt : (period mr2 : ℕ) → Card
-benchAt p v = benchWith p v false
+benchAt p v = benchWith p v false false 0
 
 unfoldable pub bench : Card
 bench = benchAt 1250 0x1a
 
 -- a part that sleeps: tCKE is 6 cycles, tXP 8, tCKESR 12, tXSR 112
 unfoldable pub sleeper : Card
-sleeper = benchWith 1250 0x1a true
+sleeper = benchWith 1250 0x1a true false 0
+
+-- two parts, with this gap
+unfoldable pub pair : ℕ → Card
+pair g = benchWith 1250 0x1a false true g
 
 -- ---- files
 unfoldable pub timingFields : ℕ → List Timing → List ℕ
@@ -72,7 +79,8 @@ cardFile card =
     fieldBytes 3 (bigEndian 2 (card .groups)) ++
     fieldBytes 4 (bigEndian 4 (card .trefi)) ++
     timingFields 5 (timings card) ++
-    when (card .sleeps) (timingFields 19 (sleepTimings card))
+    when (card .sleeps) (timingFields 19 (sleepTimings card)) ++
+    when (card .paired) (fieldBytes 25 (bigEndian 1 (card .gap)))
 
 unfoldable pub entriesFile : List Entry → List ℕ
 entriesFile [] = []
@@ -84,18 +92,20 @@ endFile end = fieldBytes 33 (bigEndian 4 end)
 unfoldable pub file : Card → List Entry → ℕ → List ℕ
 file card es end = cardFile card ++ entriesFile es ++ endFile end
 
--- ---- a case: a file and its verdict, a file and the lines printed, some bytes and their number, or a command with its pins, both ways
+-- ---- a case: a file and its verdict, a file and the lines printed, some bytes and their number, or a command with its pins, both ways, also of one of two parts
 pub data Case : Type 0 where
   judges : List ℕ → FileVerdict → Case
   prints : List ℕ → List ℕ → Case
   measures : List ℕ → ℕ → Case
   writes : Command → ℕ → Case
+  writesTo : (p : ℕ) → Command → ℕ → Case
 
 unfoldable pub Shown : Case → Type 0
 Shown (judges bs v) = judgeFile bs ≡ v
 Shown (prints bs ls) = linesOf bs ≡ ls
 Shown (measures bs n) = length bs ≡ n
 Shown (writes c p) = (encode c ≡ p) × (decode p ≡ good c)
+Shown (writesTo p c x) = (encodePair p c ≡ x) × (readPair x ≡ plain (good c))
 
 unfoldable pub accepts : (commands refreshes : ℕ) → ℤ → FileVerdict
 accepts m n l = accepted m n (l ∷ [])
@@ -230,4 +240,84 @@ sleeping =
     prints (file sleeper (nop low 0 ∷ []) 1) (
     48 ∷ 32 ∷ 78 ∷ 79 ∷ 80 ∷ 32 ∷ 45 ∷ 10 ∷
     97 ∷ 99 ∷ 99 ∷ 101 ∷ 112 ∷ 116 ∷ 101 ∷ 100 ∷ 32 ∷ 48 ∷ 32 ∷ 48 ∷ 32 ∷ 48 ∷ 10 ∷ []
+    ) ∷ []
+
+-- ---- two parts on one bus (document 02, Nine)
+infix 90 _at₀_
+unfoldable pub _at₀_ : Command → ℕ → Entry
+c at₀ t = entry t (encodePair 0 c)
+
+infix 90 _at₁_
+unfoldable pub _at₁_ : Command → ℕ → Entry
+c at₁ t = entry t (encodePair 1 c)
+
+unfoldable pub bothOpen : List Entry
+bothOpen = act 0 0 at₀ 0 ∷ act 0 0 at₁ 1 ∷ []
+
+-- the first entry stands at offset 139
+unfoldable pub paired : List Case
+paired =
+    -- rule 25: RD to RD and MRR, WR to WR
+    judges (file (pair 2) (bothOpen ++ (rd 0 0 false at₀ 15 ∷ rd 0 0 false at₁ 20 ∷ [])) 60) (refused 10 25 169 21) ∷
+    judges (file (pair 2) (bothOpen ++ (rd 0 0 false at₀ 15 ∷ rd 0 0 false at₁ 21 ∷ [])) 60) (accepted 4 0 (pos 0 ∷ pos 0 ∷ [])) ∷
+    judges (file (pair 2) (bothOpen ++ (rd 0 0 false at₁ 16 ∷ mrr 8 at₀ 21 ∷ [])) 60) (refused 10 25 169 22) ∷
+    judges (file (pair 2) (bothOpen ++ (rd 0 0 false at₁ 16 ∷ mrr 8 at₀ 22 ∷ [])) 60) (accepted 4 0 (pos 0 ∷ pos 0 ∷ [])) ∷
+    judges (file (pair 2) (bothOpen ++ (wr 0 0 false at₁ 16 ∷ wr 0 0 false at₀ 21 ∷ [])) 60) (refused 10 25 169 22) ∷
+    judges (file (pair 2) (bothOpen ++ (wr 0 0 false at₁ 16 ∷ wr 0 0 false at₀ 22 ∷ [])) 60) (accepted 4 0 (pos 0 ∷ pos 0 ∷ [])) ∷
+    judges (file (pair 0) (bothOpen ++ (rd 0 0 false at₀ 16 ∷ rd 0 0 false at₁ 19 ∷ [])) 60) (refused 10 25 169 20) ∷
+    judges (file (pair 0) (bothOpen ++ (rd 0 0 false at₀ 16 ∷ rd 0 0 false at₁ 20 ∷ [])) 60) (accepted 4 0 (pos 0 ∷ pos 0 ∷ [])) ∷
+    -- MRR to MRR and MRR to RD are free
+    judges (file (pair 255) (mrr 8 at₀ 0 ∷ mrr 8 at₁ 1 ∷ []) 60) (accepted 2 0 (pos 0 ∷ pos 0 ∷ [])) ∷
+    judges (file (pair 255) (bothOpen ++ (mrr 8 at₀ 15 ∷ rd 0 0 false at₁ 16 ∷ [])) 60) (accepted 4 0 (pos 0 ∷ pos 0 ∷ [])) ∷
+    -- rule 26: RD or MRR to WR
+    judges (file (pair 2) (bothOpen ++ (rd 0 0 false at₀ 15 ∷ wr 0 0 false at₁ 32 ∷ [])) 60) (refused 10 26 169 33) ∷
+    judges (file (pair 2) (bothOpen ++ (rd 0 0 false at₀ 15 ∷ wr 0 0 false at₁ 33 ∷ [])) 60) (accepted 4 0 (pos 0 ∷ pos 0 ∷ [])) ∷
+    judges (file (pair 2) (bothOpen ++ (mrr 8 at₁ 15 ∷ wr 0 0 false at₀ 32 ∷ [])) 60) (refused 10 26 169 33) ∷
+    judges (file (pair 2) (bothOpen ++ (mrr 8 at₁ 15 ∷ wr 0 0 false at₀ 33 ∷ [])) 60) (accepted 4 0 (pos 0 ∷ pos 0 ∷ [])) ∷
+    -- rule 27: WR to RD or MRR
+    judges (file (pair 2) (bothOpen ++ (wr 0 0 false at₀ 15 ∷ rd 0 0 false at₁ 33 ∷ [])) 60) (refused 10 27 169 34) ∷
+    judges (file (pair 2) (bothOpen ++ (wr 0 0 false at₀ 15 ∷ rd 0 0 false at₁ 34 ∷ [])) 60) (accepted 4 0 (pos 0 ∷ pos 0 ∷ [])) ∷
+    judges (file (pair 2) (bothOpen ++ (wr 0 0 false at₀ 15 ∷ mrr 8 at₁ 33 ∷ [])) 60) (refused 10 27 169 34) ∷
+    -- from the other part's latest, whatever the own part did since
+    judges (file (pair 2) (bothOpen ++ (wr 0 0 false at₀ 15 ∷ wr 0 0 false at₁ 21 ∷ rd 0 0 false at₀ 39 ∷ [])) 60) (refused 10 27 179 40) ∷
+    judges (file (pair 2) (bothOpen ++ (wr 0 0 false at₀ 15 ∷ wr 0 0 false at₁ 21 ∷ rd 0 0 false at₀ 40 ∷ [])) 60) (accepted 5 0 (pos 0 ∷ pos 0 ∷ [])) ∷
+    -- with WL of the earlier entry's part: 8, where the later one's is 6
+    judges (file (pair 2) (mrw 2 0x1c at₁ 0 ∷ act 0 0 at₀ 1 ∷ act 0 0 at₁ 10 ∷ wr 0 0 false at₁ 25 ∷ rd 0 0 false at₀ 45 ∷ []) 60) (refused 10 27 179 46) ∷
+    judges (file (pair 2) (mrw 2 0x1c at₁ 0 ∷ act 0 0 at₀ 1 ∷ act 0 0 at₁ 10 ∷ wr 0 0 false at₁ 25 ∷ rd 0 0 false at₀ 46 ∷ []) 60) (accepted 5 0 (pos 0 ∷ pos 0 ∷ [])) ∷
+    -- all else is each part's own: banks, tRRD, tRFCab, round counter; but stamps rise over both
+    judges (file (pair 2) (act 0 0 at₀ 0 ∷ refab at₁ 1 ∷ act 1 0 at₀ 8 ∷ []) 60) (accepted 3 1 (pos 0 ∷ negsuc 0 ∷ [])) ∷
+    judges (file (pair 2) (act 0 0 at₀ 0 ∷ rd 0 0 false at₁ 15 ∷ []) 60) (refused 8 0 149 0) ∷
+    judges (file (pair 2) (act 0 0 at₀ 0 ∷ prea at₁ 1 ∷ rd 0 0 false at₀ 15 ∷ []) 60) (accepted 3 0 (pos 0 ∷ pos 0 ∷ [])) ∷
+    judges (file (pair 2) (act 0 0 at₀ 5 ∷ act 0 0 at₁ 5 ∷ []) 60) (refused 5 0 149 0) ∷
+    -- 24, just after 6; 6 is bits 21 and 23, and bit 22 in a file without tag 25
+    judges (file (pair 2) (act 0 0 at 0 ∷ []) 60) (refused 24 0 139 0) ∷
+    judges (file (pair 2) (entry 0 0xa0_0000 ∷ []) 60) (refused 6 0 139 0) ∷
+    judges (file (pair 2) (entry 0 0x50_0000 ∷ []) 60) (refused 6 0 139 0) ∷
+    judges (file (pair 2) (entry 0 0x00_0000 ∷ []) 60) (refused 6 0 139 0) ∷
+    judges (file (pair 2) (entry 0 0x60_0003 ∷ []) 60) (refused 7 0 139 0) ∷
+    judges (file bench (nop at₀ 0 ∷ []) 60) (refused 6 0 135 0) ∷
+    -- both ledgers: the earlier is named, and at one cycle the first part's rule, be it 20 and the second's 19
+    judges (file (pair 2) [] 28_079) (accepted 0 0 (pos 8 ∷ pos 8 ∷ [])) ∷
+    judges (file (pair 2) [] 28_080) (refused 11 19 139 28_080) ∷
+    judges (file (pair 2) (refab at₀ 100 ∷ []) 28_080) (refused 11 19 149 28_080) ∷
+    judges (file (pair 2) (refab at₁ 100 ∷ nop at₀ 30_000 ∷ []) 30_000) (refused 11 19 149 28_080) ∷
+    judges (file (pair 2) (refab at₀ 0 ∷ refab at₀ 3_119 ∷ refab at₁ 5_000 ∷ []) 31_199) (accepted 3 3 (pos 7 ∷ pos 8 ∷ [])) ∷
+    judges (file (pair 2) (refab at₀ 0 ∷ refab at₀ 3_119 ∷ refab at₁ 5_000 ∷ []) 31_200) (refused 11 20 169 31_200) ∷
+    judges (file (pair 2) (refab at₁ 0 ∷ refab at₁ 3_119 ∷ refab at₀ 5_000 ∷ []) 31_200) (refused 11 19 169 31_200) ∷
+    -- a refresh of one part at the cycle at which both would fail saves that part alone
+    judges (file (pair 2) (refab at₀ 28_080 ∷ []) 28_080) (refused 11 19 139 28_080) ∷
+    -- the form: length, then 4 beside tags 19 to 22; once, and behind tag 18; a gap may be 0
+    judges (cardFile sleeper ++ fieldBytes 25 (0 ∷ 0 ∷ []) ++ endFile 20) (refused 3 0 167 0) ∷
+    judges (cardFile sleeper ++ fieldBytes 25 (0 ∷ []) ++ endFile 20) (refused 4 0 167 0) ∷
+    judges (cardFile (pair 2) ++ fieldBytes 25 (2 ∷ []) ++ endFile 20) (refused 2 0 139 0) ∷
+    judges (cardFile (pair 2) ++ timingFields 19 (sleepTimings sleeper) ++ endFile 20) (refused 2 0 139 0) ∷
+    judges (cardFile bench ++ entriesFile (nop at 0 ∷ []) ++ fieldBytes 25 (2 ∷ []) ++ endFile 20) (refused 2 0 145 0) ∷
+    -- pins and lines
+    writesTo 0 (act 5 0x1234) 0x60_d2ca ∷
+    writesTo 1 (act 5 0x1234) 0x30_d2ca ∷
+    writesTo 0 nop 0x70_0000 ∷
+    writesTo 1 nop 0x70_0000 ∷
+    prints (file (pair 2) (nop at₀ 0 ∷ entry 1 0x30_0007 ∷ act 5 0 at₁ 2 ∷ refpb at₀ 3 ∷ refpb at₀ 60 ∷ refpb at₁ 61 ∷ []) 61) (
+    48 ∷ 32 ∷ 78 ∷ 79 ∷ 80 ∷ 32 ∷ 45 ∷ 32 ∷ 45 ∷ 10 ∷ 49 ∷ 32 ∷ 78 ∷ 79 ∷ 80 ∷ 32 ∷ 45 ∷ 32 ∷ 49 ∷ 10 ∷ 50 ∷ 32 ∷ 65 ∷ 67 ∷ 84 ∷ 32 ∷ 53 ∷ 32 ∷ 49 ∷ 10 ∷ 51 ∷ 32 ∷ 82 ∷ 69 ∷ 70 ∷ 80 ∷ 66 ∷ 32 ∷ 48 ∷ 32 ∷ 48 ∷ 10 ∷ 54 ∷ 48 ∷ 32 ∷ 82 ∷ 69 ∷ 70 ∷ 80 ∷ 66 ∷ 32 ∷ 49 ∷ 32 ∷ 48 ∷ 10 ∷ 54 ∷ 49 ∷ 32 ∷ 82 ∷ 69 ∷ 70 ∷ 80 ∷ 66 ∷ 32 ∷ 48 ∷ 32 ∷ 49 ∷ 10 ∷
+    97 ∷ 99 ∷ 99 ∷ 101 ∷ 112 ∷ 116 ∷ 101 ∷ 100 ∷ 32 ∷ 52 ∷ 32 ∷ 48 ∷ 32 ∷ 48 ∷ 32 ∷ 48 ∷ 10 ∷ []
     ) ∷ []

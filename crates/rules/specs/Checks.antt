@@ -9,12 +9,12 @@ use Rattle.rules.specs.Units.{Delays, delaysOf}
 use Rattle.rules.specs.Commands.{Command, carries, is, MRW}
 use Rattle.rules.specs.Pins.{good, wrongBits, reserved}
 use Rattle.rules.specs.Registers.{mayWrite}
-use Rattle.rules.specs.Levels.{Read, plain, moved, asleep, barred}
+use Rattle.rules.specs.Levels.{Read, plain, moved, asleep, barred, clash}
 use Rattle.rules.specs.Past.{Past}
 use Rattle.rules.specs.States.{stateGood}
 use Rattle.rules.specs.Folds.{firstOf, firstBroken}
 use Rattle.rules.specs.Delays.{delayRules}
-use Rattle.rules.specs.Entries.{Entry, View, viewOf, readAfter, moveOf, judgedAs, pastWith}
+use Rattle.rules.specs.Entries.{Entry, View, viewFor, readFor, moveOf, judgedAs, pastWith}
 use Rattle.rules.specs.Account.{lpddr3, failingIn, firstIn}
 use Rattle.rules.specs.Clock.{booksOf}
 
@@ -46,6 +46,7 @@ isWrong (plain reserved) = false
 isWrong (moved m) = false
 isWrong asleep = false
 isWrong barred = false
+isWrong clash = false
 
 unfoldable pub isReserved : Read → Bool
 isReserved (plain (good c)) = false
@@ -54,24 +55,34 @@ isReserved (plain reserved) = true
 isReserved (moved m) = false
 isReserved asleep = false
 isReserved barred = false
+isReserved clash = false
 
 unfoldable pub isBarred : Read → Bool
 isBarred (plain d) = false
 isBarred (moved m) = false
 isBarred asleep = false
 isBarred barred = true
+isBarred clash = false
+
+unfoldable pub isClash : Read → Bool
+isClash (plain d) = false
+isClash (moved m) = false
+isClash asleep = false
+isClash barred = false
+isClash clash = true
 
 unfoldable pub valueGood : Card → Command → Bool
 valueGood card c = cond (is MRW c) (mayWrite (card .period) (carries c .ma) (carries c .op)) true
 
--- The checks of an entry with stamp t: whether the stamp rises; 19 and 20 through the cycle before it; the pins, the bank state, what is permitted, the
--- value, the delay rules; 19 and 20 at the stamp.
+-- The checks of an entry with stamp t: whether the stamp rises; 19 and 20 through the cycle before it; the pins, both CS_n, the bank state, what is
+-- permitted, the value, the delay rules; 19 and 20 at the stamp.
 unfoldable pub checks : Card → Delays → View → (rises : Bool) → (before at : Option (ℕ × ℕ)) → Read → (t : ℕ) → List (Option Refusal)
 checks card delays v rises before at r t =
     let c = judgedAs r in
     unless rises 5 ∷
     named 11 before ∷
     unless (not (isWrong r)) 6 ∷
+    unless (not (isClash r)) 24 ∷
     unless (not (isReserved r)) 7 ∷
     unless (stateGood (v .open?) (v .counter) c) 8 ∷
     unless (not (isBarred r)) 16 ∷
@@ -79,7 +90,7 @@ checks card delays v rises before at r t =
     named 10 (firstBroken (v .look) (delayRules delays c (moveOf r) (v .counter)) t) ∷
     named 11 at ∷ []
 
--- ---- over the list
+-- ---- over the list, of both parts' entries: stamps rise over both together, and 11 looks at both ledgers
 -- t is above the last stamp, and not below it; where there is no entry yet, any is
 unfoldable pub above : Past → ℕ → Bool
 above [] t = true
@@ -91,10 +102,10 @@ notBelow (e ∷ p) t = leb (e .stamp) t
 
 unfoldable pub entryChecks : Card → Past → Entry → List (Option Refusal)
 entryChecks card past e =
-    checks card (delaysOf card) (viewOf card past) (above past (e .stamp))
+    checks card (delaysOf card) (viewFor card past e) (above past (e .stamp))
     (firstIn lpddr3 (booksOf card past) (e .stamp))
     (failingIn lpddr3 (booksOf card (pastWith card past e)) (e .stamp))
-    (readAfter card past e) (e .stamp)
+    (readFor card past e) (e .stamp)
 
 -- the end: E not below the last stamp; 19 and 20 through E
 unfoldable pub endChecks : Card → Past → ℕ → List (Option Refusal)

@@ -1,4 +1,4 @@
--- Which cycles are counted (document 02, One), and the account of a past: over the counted cycles, by their numbers.
+-- Which cycles are counted (document 02, One), and the account of a part's entries: over the counted cycles, by their numbers.
 use Prim.Native.Nat.{ℕ, zero, suc, _+_}
 use mathlib.Core.Bool.{Bool, cond, not}
 use mathlib.Core.List.{List, [], _∷_, map}
@@ -6,7 +6,8 @@ use lib.Dec.{ltb}
 use Rattle.rules.specs.Card.{Card}
 use Rattle.rules.specs.Units.{interval}
 use Rattle.rules.specs.Levels.{Level, awake, stopped}
-use Rattle.rules.specs.Past.{Past, levelAt, countedStamps}
+use Rattle.rules.specs.Whose.{parts}
+use Rattle.rules.specs.Past.{Past, ofPart, levelAt, countedStamps}
 use Rattle.rules.specs.Account.{Schedule, Beat, every, steady, Book}
 
 -- the level before cycle t: after the entries below it
@@ -37,6 +38,6 @@ scheduleOf card past = steady (beatOf card)
 unfoldable pub bookOf : Card → Past → Book
 bookOf card past = record { schedule = scheduleOf card past; clock = clock past; refreshes = map (clock past) (countedStamps past) }
 
--- those that 11 looks at
+-- those that 11 looks at: one for each part of the trace, over its own entries
 unfoldable pub booksOf : Card → Past → List Book
-booksOf card past = bookOf card past ∷ []
+booksOf card past = map (λ p. bookOf card (ofPart p past)) (parts card)

@@ -5,9 +5,10 @@ use mathlib.Core.List.{List, [], _∷_}
 use Rattle.rules.specs.Card.{Card}
 use Rattle.rules.specs.Commands.{Command, nop, refab}
 use Rattle.rules.specs.Pins.{Decoded, good, wrongBits, reserved}
-use Rattle.rules.specs.Levels.{Level, awake, powerDown, selfRefresh, deep, Move, stays, falls, rises, Read, plain, moved, asleep, barred, readPins}
-use Rattle.rules.specs.Past.{Taken, Past, levelAt, isOpen, counterAt}
-use Rattle.rules.specs.Delays.{Lookup, find}
+use Rattle.rules.specs.Levels.{Level, awake, powerDown, selfRefresh, deep, Move, stays, falls, rises, Read, plain, moved, asleep, barred, clash, readAs}
+use Rattle.rules.specs.Whose.{Whose, whose, partOf, other}
+use Rattle.rules.specs.Past.{Taken, Past, ofPart, levelAt, isOpen, counterAt}
+use Rattle.rules.specs.Delays.{Lookup, lookBoth, find}
 
 pub record Entry : Type 0 where
   pub stamp : ℕ
@@ -16,21 +17,30 @@ pub record Entry : Type 0 where
 abbrev pub entry : (stamp pins : ℕ) → Entry
 entry t p = record { stamp = t; pins = p }
 
--- what an entry is judged by, of all that came before, beside the level: which banks are open, the round counter, and the answers to the delay rules' questions
+-- what an entry is judged by, of all that came before, beside the level: of its own part which banks are open, the round counter, and the answers to the delay
+-- rules' questions, and of the other part such answers
 pub record View : Type 0 where
   pub open? : ℕ → Bool
   pub counter : ℕ
   pub look : Lookup
 
-unfoldable pub viewOf : Card → Past → View
-viewOf card past = record { open? = λ b. isOpen b past; counter = counterAt past; look = find card past }
+-- by the part's own entries and the other one's
+unfoldable pub viewOf : Card → (own others : Past) → View
+viewOf card own others = record { open? = λ b. isOpen b own; counter = counterAt own; look = lookBoth (find card own) (find card others) }
 
--- The one place that says what an entry is: by its card, the level and its pins
+-- The one place that says what an entry is: by its card, its part's level and its pins
 unfoldable pub read : Card → Level → Entry → Read
-read card l e = readPins (card .sleeps) l (e .pins)
+read card l e = readAs (card .sleeps) (card .paired) l (e .pins)
 
-unfoldable pub readAfter : Card → Past → Entry → Read
-readAfter card past e = read card (levelAt past) e
+unfoldable pub readAfter : Card → (own : Past) → Entry → Read
+readAfter card own e = read card (levelAt own) e
+
+unfoldable pub whoseOf : Card → Entry → Whose
+whoseOf card e = whose (card .paired) (e .pins)
+
+-- the part that judges it
+unfoldable pub partIn : Card → Entry → ℕ
+partIn card e = partOf (whoseOf card e)
 
 unfoldable pub commandOf : Decoded → Command
 commandOf (good c) = c
@@ -43,12 +53,14 @@ recordedAs (plain d) = commandOf d
 recordedAs (moved m) = nop
 recordedAs asleep = nop
 recordedAs barred = nop
+recordedAs clash = nop
 
 unfoldable pub moveOf : Read → Move
 moveOf (plain d) = stays
 moveOf (moved m) = m
 moveOf asleep = stays
 moveOf barred = stays
+moveOf clash = stays
 
 -- judged as: the entries into self-refresh and deep power-down are REFab, for the bank states and the delays
 unfoldable pub fallsAs : Level → Command
@@ -67,13 +79,32 @@ judgedAs (plain d) = commandOf d
 judgedAs (moved m) = movesAs m
 judgedAs asleep = nop
 judgedAs barred = nop
+judgedAs clash = nop
 
-unfoldable pub taken : Card → Past → Entry → Taken
-taken card past e = let r = readAfter card past e in record { stamp = e .stamp; cmd = recordedAs r; move = moveOf r }
+-- behind its own part's entries
+unfoldable pub taken : Card → (own : Past) → Entry → Taken
+taken card own e = let r = readAfter card own e in record { stamp = e .stamp; cmd = recordedAs r; move = moveOf r; whose = whoseOf card e }
+
+-- ---- over the entries of both parts
+-- the entries of the part that judges e, and those of the other
+unfoldable pub ownFor : Card → Past → Entry → Past
+ownFor card past e = ofPart (partIn card e) past
+
+unfoldable pub othersFor : Card → Past → Entry → Past
+othersFor card past e = ofPart (other (partIn card e)) past
+
+unfoldable pub viewFor : Card → Past → Entry → View
+viewFor card past e = viewOf card (ownFor card past e) (othersFor card past e)
+
+unfoldable pub readFor : Card → Past → Entry → Read
+readFor card past e = readAfter card (ownFor card past e) e
+
+unfoldable pub takenFor : Card → Past → Entry → Taken
+takenFor card past e = taken card (ownFor card past e) e
 
 -- the past after an entry, and after these entries
 unfoldable pub pastWith : Card → Past → Entry → Past
-pastWith card past e = taken card past e ∷ past
+pastWith card past e = takenFor card past e ∷ past
 
 unfoldable pub pastOver : Card → Past → List Entry → Past
 pastOver card past [] = past

@@ -12,7 +12,7 @@ use Rattle.rules.specs.Checks.{Refusal, entryRefusal, endRefusal}
 use Rattle.rules.specs.Verdict.{refreshCount, ledgersAt}
 use Rattle.rules.specs.Form.{Field, sizeOf, Head, whole, cut, badTag, badLength, headOf, cardOf, fieldGood, entryOf, endOf}
 
--- four numbers of a refusal, or entries other than NOP, counted refreshes and the ledger at E of each book
+-- four numbers of a refusal, or entries other than NOP, counted refreshes and each part's ledger at E
 pub data FileVerdict : Type 0 where
   accepted : (commands refreshes : ℕ) (ledgers : List ℤ) → FileVerdict
   refused : (number rule offset cycle : ℕ) → FileVerdict
@@ -35,7 +35,7 @@ entryStep fs past at f rest =
     orRefused at (entryRefusal (cardOf fs) past (entryOf f)) (goesOn fs (pastWith (cardOf fs) past (entryOf f)) (at + sizeOf f) rest)
 
 unfoldable pub acceptedAt : List Field → Past → ℕ → FileVerdict
-acceptedAt fs past end = accepted (commandCount past) (refreshCount past) (ledgersAt (cardOf fs) past end)
+acceptedAt fs past end = accepted (commandCount past) (refreshCount (cardOf fs) past) (ledgersAt (cardOf fs) past end)
 
 -- bytes behind the end field are 12, at the first of them
 unfoldable pub closing : FileVerdict → ℕ → List ℕ → Step

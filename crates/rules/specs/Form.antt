@@ -42,7 +42,7 @@ unfoldable pub _upTo_ : ℕ → ℕ → Group
 a upTo b = record { first = a; last = b }
 
 unfoldable pub groups : List Group
-groups = 1 upTo 18 ∷ 19 upTo 22 ∷ []
+groups = 1 upTo 18 ∷ 19 upTo 22 ∷ 25 upTo 25 ∷ []
 
 -- the tag of the newest field, 0 before the first
 unfoldable pub lastTag : List Field → ℕ
@@ -88,7 +88,7 @@ unfoldable pub lengths : List Listed
 lengths =
     1 of 4 ∷ 2 of 1 ∷ 3 of 2 ∷ 4 of 4 ∷
     5 of 5 ∷ 6 of 5 ∷ 7 of 5 ∷ 8 of 5 ∷ 9 of 5 ∷ 10 of 5 ∷ 11 of 5 ∷ 12 of 5 ∷ 13 of 5 ∷ 14 of 5 ∷ 15 of 5 ∷ 16 of 5 ∷ 17 of 5 ∷ 18 of 5 ∷
-    19 of 5 ∷ 20 of 5 ∷ 21 of 5 ∷ 22 of 5 ∷
+    19 of 5 ∷ 20 of 5 ∷ 21 of 5 ∷ 22 of 5 ∷ 25 of 1 ∷
     32 of 7 ∷ 33 of 4 ∷ []
 
 unfoldable pub isListed : List Listed → (tag size : ℕ) → Bool
@@ -164,7 +164,13 @@ cardOf fs = record {
   txp = timingAt 20 fs;
   tckesr = timingAt 21 fs;
   txsr = timingAt 22 fs;
+  paired = has 25 fs;
+  gap = numberAt 25 fs;
 }
+
+-- a gap is a byte, and comes in no card with tags 19 to 22
+unfoldable pub gapGood : List Field → ℕ → Bool
+gapGood fs x = leb x 255 && not (has 19 fs)
 
 -- a card value in range; MR2 and tREFI are held against the period read before
 unfoldable pub fieldGood : List Field → Field → Bool
@@ -174,7 +180,8 @@ fieldGood fs f =
     cond (eqb t 1) (periodGood x)
     (cond (eqb t 2) (mr2Good (numberAt 1 fs) x)
     (cond (eqb t 3) (groupsGood x)
-    (cond (eqb t 4) (trefiGood (numberAt 1 fs) x) (timingGood (timingOf (f .value))))))
+    (cond (eqb t 4) (trefiGood (numberAt 1 fs) x)
+    (cond (eqb t 25) (gapGood fs x) (timingGood (timingOf (f .value)))))))
 
 -- an entry: stamp (4 bytes), pins (3); the end: E
 unfoldable pub entryOf : Field → Entry

@@ -3,19 +3,20 @@
 use Prim.Native.Nat.{ℕ, suc, _+_, _-_, max}
 use mathlib.Core.Path.{_≡_}
 use mathlib.Core.Bool.{Bool, true, false, cond, not, _&&_}
-use mathlib.Core.List.{List, [], _∷_}
+use mathlib.Core.List.{List, [], _∷_, map}
 use mathlib.Core.Option.{Option, none, some}
-use lib.Dec.{leb, ltb}
+use lib.Dec.{leb, ltb, eqb}
 use lib.IntN.{ℤ, pos, negℤ}
 use lib.ListN.{take, getElem?}
 use lib.Signed.{leZ}
-use Rattle.rules.specs.Lists.{all}
+use Rattle.rules.specs.Lists.{all, isOneOf}
 use Rattle.rules.specs.Card.{Card}
 use Rattle.rules.specs.Units.{delaysOf}
 use Rattle.rules.specs.Commands.{Command, banks}
 use Rattle.rules.specs.Registers.{mr2Good}
 use Rattle.rules.specs.Ranges.{cardGood}
-use Rattle.rules.specs.Past.{Past, registerAfter, mr2At, levelAt, counterAfter, counterAt, openAfter, isOpen, isCounted}
+use Rattle.rules.specs.Whose.{Whose, isOf, other, parts}
+use Rattle.rules.specs.Past.{Past, ofPart, lastCycle, registerAfter, mr2At, levelAt, counterAfter, counterAt, openAfter, isOpen, isCounted}
 use Rattle.rules.specs.Folds.{Found, firstOf}
 use Rattle.rules.specs.Delays.{
   Ask,
@@ -41,12 +42,13 @@ use Rattle.rules.specs.Delays.{
   Question,
   Meaning,
   means,
-  Lookup,
+  Answers,
+  lookBoth,
 }
-use Rattle.rules.specs.Account.{lpddr3, Beat, steady, takeOne, failing, ledgerOn, sinceOn, firstOn, idle, firstIdle}
+use Rattle.rules.specs.Account.{lpddr3, Beat, steady, takeOne, failing, ledgerOn, sinceOn, firstOn, earliest, idle, firstIdle}
 use Rattle.rules.specs.Clock.{clock, beatOf, bookOf}
 use Rattle.rules.specs.Levels.{Level, awake, stopped, Move, levelAfter, Read}
-use Rattle.rules.specs.Entries.{Entry, View, read, recordedAs, moveOf, taken}
+use Rattle.rules.specs.Entries.{Entry, View, read, whoseOf, partIn, recordedAs, moveOf, takenFor}
 use Rattle.rules.specs.Checks.{Refusal, unless, named, checks, entryRefusal}
 
 -- ---- what it holds
@@ -67,7 +69,7 @@ numberOf g = g .at - g .skipped
 abbrev pub History : Type 0
 History = Question → List (Found ℕ)
 
--- what is lent of the part
+-- what is lent of one part; it knows nothing of the other
 pub record Share : Type 0 where
   pub mr2 : ℕ
   pub open? : ℕ → Bool
@@ -75,17 +77,26 @@ pub record Share : Type 0 where
   pub history : History
   pub ledger : Ledger
 
--- with the card, and the last entry's stamp, if there is one
+-- the card, the last entry's stamp, of whichever part, if there is one, and each part's share. That of a part which the trace does not have is not looked at
 pub record Lent : Type 0 where
   pub card : Card
   pub last : Option ℕ
-  pub share : Share
+  pub share : ℕ → Share
 
-unfoldable pub lookIn : History → Lookup
+unfoldable pub hasPart : Card → ℕ → Bool
+hasPart card p = isOneOf (parts card) p
+
+unfoldable pub lookIn : History → Answers
 lookIn h q = getElem? (h q) (means (q .ask) .passed)
 
-unfoldable pub viewIn : Share → View
-viewIn s = record { open? = s .open?; counter = s .counter; look = lookIn (s .history) }
+unfoldable pub answersIn : Lent → ℕ → Answers
+answersIn l p q = cond (hasPart (l .card) p) (lookIn (l .share p .history) q) none
+
+-- the view of part p
+unfoldable pub viewIn : Lent → ℕ → View
+viewIn l p =
+    let s = l .share p in
+    record { open? = s .open?; counter = s .counter; look = lookBoth (answersIn l p) (answersIn l (other p)) }
 
 -- ---- refusal 13, clause by clause
 unfoldable pub asks : List Ask
@@ -148,8 +159,9 @@ shareGood card last s =
     sinceGood (s .ledger) &&
     leb (s .counter) 7
 
+-- every part of the trace
 unfoldable pub lentGood : Lent → Bool
-lentGood l = cardGood (l .card) && shareGood (l .card) (l .last) (l .share)
+lentGood l = cardGood (l .card) && all (λ p. shareGood (l .card) (l .last) (l .share p)) (parts (l .card))
 
 -- ---- a step
 -- the stamp is above the last entry's
@@ -157,8 +169,16 @@ unfoldable pub aboveLast : Option ℕ → ℕ → Bool
 aboveLast none t = true
 aboveLast (some s) t = ltb s t
 
+-- not below the cycle that any part's ledger stands at
+unfoldable pub notBehind : Lent → ℕ → Bool
+notBehind l t = all (λ p. leb (l .share p .ledger .at) t) (parts (l .card))
+
+-- the share of the part that judges the entry
+unfoldable pub ownIn : Lent → Entry → Share
+ownIn l e = l .share (partIn (l .card) e)
+
 unfoldable pub readIn : Lent → Entry → Read
-readIn l e = read (l .card) (l .share .ledger .level) e
+readIn l e = read (l .card) (ownIn l e .ledger .level) e
 
 unfoldable pub commandIn : Lent → Entry → Command
 commandIn l e = recordedAs (readIn l e)
@@ -166,7 +186,7 @@ commandIn l e = recordedAs (readIn l e)
 unfoldable pub moveIn : Lent → Entry → Move
 moveIn l e = moveOf (readIn l e)
 
--- what an entry does to the ledger: whether it is a counted refresh, and the level from there on
+-- what an entry does to a ledger: whether it is a counted refresh, and the level from there on
 pub record Effect : Type 0 where
   pub counted : Bool
   pub level : Level
@@ -175,7 +195,14 @@ unfoldable pub effectOf : Read → (counter : ℕ) → Level → Effect
 effectOf r n v = record { counted = isCounted (recordedAs r) n; level = levelAfter (moveOf r) v }
 
 unfoldable pub effectIn : Lent → Entry → Effect
-effectIn l e = effectOf (readIn l e) (l .share .counter) (l .share .ledger .level)
+effectIn l e = effectOf (readIn l e) (ownIn l e .counter) (ownIn l e .ledger .level)
+
+-- on a part whose own entry it is not: nothing
+unfoldable pub noEffect : Level → Effect
+noEffect v = record { counted = false; level = v }
+
+unfoldable pub effectOn : Lent → Entry → ℕ → Effect
+effectOn l e p = cond (isOf p (whoseOf (l .card) e)) (effectIn l e) (noEffect (l .share p .ledger .level))
 
 -- The ledger as after cycle t, idle up to it. What fell due at the cycle where it stands is not added again. Where the cycles of its level are not counted
 -- its number stays, and it gains nothing
@@ -204,8 +231,9 @@ atLevel v g = record { at = g .at; owing = g .owing; since = g .since; skipped =
 unfoldable pub entered : Effect → Beat → Ledger → ℕ → Ledger
 entered x b g t = atLevel (x .level) (refreshedAt (x .counted) (ledgerTo b g t))
 
-unfoldable pub ledgerWith : Lent → Entry → Ledger
-ledgerWith l e = entered (effectIn l e) (beatOf (l .card)) (l .share .ledger) (e .stamp)
+-- each part's ledger after an entry, whosesoever
+unfoldable pub ledgerWith : Lent → Entry → ℕ → Ledger
+ledgerWith l e p = entered (effectOn l e p) (beatOf (l .card)) (l .share p .ledger) (e .stamp)
 
 -- 19 and 20 after the cycle where the ledger stands
 unfoldable pub failingOf : Beat → Ledger → Option (ℕ × ℕ)
@@ -216,15 +244,20 @@ unfoldable pub failingTo : Beat → Ledger → ℕ → Option (ℕ × ℕ)
 failingTo b g t =
     cond (stopped (g .level)) none (firstIdle lpddr3 (steady b) (g .owing) (g .since) (numberOf g) (g .at) (t - suc (g .at)))
 
+-- of every part: the earliest, and at one cycle the first part's
+unfoldable pub failingsTo : Lent → ℕ → Option (ℕ × ℕ)
+failingsTo l t = earliest (map (λ p. failingTo (beatOf (l .card)) (l .share p .ledger) t) (parts (l .card)))
+
+unfoldable pub failingsWith : Lent → Entry → Option (ℕ × ℕ)
+failingsWith l e = firstOf (map (λ p. failingOf (beatOf (l .card)) (ledgerWith l e p)) (parts (l .card)))
+
 -- 13, then the checks of an entry
 unfoldable pub stepRefusal : Lent → Entry → Option Refusal
 stepRefusal l e =
-    let b = beatOf (l .card) in
-    let g = l .share .ledger in
     let t = e .stamp in
     firstOf (
     unless (lentGood l) 13 ∷
-    checks (l .card) (delaysOf (l .card)) (viewIn (l .share)) (aboveLast (l .last) t && leb (g .at) t) (failingTo b g t) (failingOf b (ledgerWith l e))
+    checks (l .card) (delaysOf (l .card)) (viewIn l (partIn (l .card) e)) (aboveLast (l .last) t && notBehind l t) (failingsTo l t) (failingsWith l e)
     (readIn l e) t
     )
 
@@ -237,7 +270,7 @@ historyAfter c v n t mr2 h q =
     let m = means (q .ask) in
     cond (m .among (q .bank) c v n) (remembered m c (record { stamp = t; noted = cond (m .lags) mr2 0 }) (h q)) (h q)
 
--- the share after an entry with this command and move at cycle t, its ledger then being g
+-- a part's share after an entry of its own with this command and move at cycle t, its ledger then being g
 unfoldable pub shareAfter : Command → Move → (t : ℕ) → Ledger → Share → Share
 shareAfter c v t g s = record {
   mr2 = registerAfter 2 c (s .mr2);
@@ -247,22 +280,23 @@ shareAfter c v t g s = record {
   ledger = g;
 }
 
+unfoldable pub withLedger : Ledger → Share → Share
+withLedger g s = record { mr2 = s .mr2; open? = s .open?; counter = s .counter; history = s .history; ledger = g }
+
+-- after an entry of whichever part: what is not its own only moves on
+unfoldable pub shareWith : Lent → Entry → ℕ → Share
+shareWith l e p =
+    cond (isOf p (whoseOf (l .card) e)) (shareAfter (commandIn l e) (moveIn l e) (e .stamp) (ledgerWith l e p) (l .share p))
+    (withLedger (ledgerWith l e p) (l .share p))
+
 -- the record after an entry that was taken
 unfoldable pub lentAfter : Lent → Entry → Lent
-lentAfter l e = record {
-  card = l .card;
-  last = some (e .stamp);
-  share = shareAfter (commandIn l e) (moveIn l e) (e .stamp) (ledgerWith l e) (l .share);
-}
+lentAfter l e = record { card = l .card; last = some (e .stamp); share = λ p. cond (hasPart (l .card) p) (shareWith l e p) (l .share p) }
 
--- ---- the end offered to a record: 13, 5, 11; it answers with the ledger moved on to E
+-- ---- the end offered to a record: 13, 5, 11; it answers with each part's ledger moved on to E
 unfoldable pub closeRefusal : Lent → ℕ → Option Refusal
 closeRefusal l end =
-    firstOf (
-    unless (lentGood l) 13 ∷
-    unless (lastBy (l .last) end && leb (l .share .ledger .at) end) 5 ∷
-    named 11 (failingTo (beatOf (l .card)) (l .share .ledger) (suc end)) ∷ []
-    )
+    firstOf (unless (lentGood l) 13 ∷ unless (lastBy (l .last) end && notBehind l end) 5 ∷ named 11 (failingsTo l (suc end)) ∷ [])
 
 -- ---- a ledger lent alone, with its card, and moved on to cycle c: 13, 5, 11
 unfoldable pub ledgerGood : Card → Ledger → Bool
@@ -285,70 +319,66 @@ enterRefusal x card g t =
     named 11 (failingOf (beatOf card) (entered x (beatOf card) g t)) ∷ []
     )
 
-unfoldable pub withLedger : Ledger → Share → Share
-withLedger g s = record { mr2 = s .mr2; open? = s .open?; counter = s .counter; history = s .history; ledger = g }
+-- the record with another ledger of part p
+unfoldable pub putLedger : Lent → ℕ → Ledger → Lent
+putLedger l p g = record { card = l .card; last = l .last; share = λ q. cond (eqb q p) (withLedger g (l .share q)) (l .share q) }
 
--- the record with another ledger
-unfoldable pub putLedger : Lent → Ledger → Lent
-putLedger l g = record { card = l .card; last = l .last; share = withLedger g (l .share) }
-
--- ---- the record that stands for a past, its ledger moved on to cycle c; a cycle that is not after the last entry moves nothing
+-- ---- the record that stands for a past, part p's ledger moved on to cycle c p; a cycle that is not after the last entry moves nothing
 unfoldable pub lastOf : Past → Option ℕ
 lastOf [] = none
 lastOf (e ∷ t) = some (e .stamp)
-
-unfoldable pub lastCycle : Past → ℕ
-lastCycle [] = 0
-lastCycle (e ∷ t) = e .stamp
 
 unfoldable pub historyOf : Card → Past → History
 historyOf card [] q = []
 historyOf card (e ∷ t) q = historyAfter (e .cmd) (e .move) (counterAt t) (e .stamp) (mr2At card t) (historyOf card t) q
 
--- the ledger that stands for a past as after cycle t
+-- the ledger that stands for a part's own entries as after cycle t
 abbrev pub ledgerAt : Card → Past → ℕ → Ledger
-ledgerAt card past t = record {
+ledgerAt card own t = record {
   at = t;
-  owing = ledgerOn (lpddr3 .credit) (bookOf card past) t;
-  since = sinceOn (bookOf card past) t;
-  skipped = t - clock past t;
-  level = levelAt past;
+  owing = ledgerOn (lpddr3 .credit) (bookOf card own) t;
+  since = sinceOn (bookOf card own) t;
+  skipped = t - clock own t;
+  level = levelAt own;
 }
 
 unfoldable pub shareOf : Card → Past → ℕ → Share
-shareOf card past t = record {
-  mr2 = mr2At card past;
-  open? = λ b. isOpen b past;
-  counter = counterAt past;
-  history = historyOf card past;
-  ledger = ledgerAt card past t;
+shareOf card own t = record {
+  mr2 = mr2At card own;
+  open? = λ b. isOpen b own;
+  counter = counterAt own;
+  history = historyOf card own;
+  ledger = ledgerAt card own t;
 }
 
--- the cycle that its ledger stands at
-unfoldable pub standsAt : Past → ℕ → ℕ
-standsAt past c = max (lastCycle past) c
+-- the cycle that part p's ledger stands at
+unfoldable pub standsAt : Past → (ℕ → ℕ) → ℕ → ℕ
+standsAt past c p = max (lastCycle past) (c p)
 
-unfoldable pub standing : Card → Past → ℕ → Lent
-standing card past c = record { card = card; last = lastOf past; share = shareOf card past (standsAt past c) }
+unfoldable pub freshShare : Card → Share
+freshShare card = record {
+  mr2 = card .mr2;
+  open? = λ b. false;
+  counter = 0;
+  history = λ q. [];
+  ledger = record { at = 0; owing = pos 0; since = 0; skipped = 0; level = awake };
+}
+
+unfoldable pub standing : Card → Past → (ℕ → ℕ) → Lent
+standing card past c = record {
+  card = card;
+  last = lastOf past;
+  share = λ p. cond (hasPart card p) (shareOf card (ofPart p past) (standsAt past c p)) (freshShare card);
+}
 
 unfoldable pub fresh : Card → Lent
-fresh card = record {
-  card = card;
-  last = none;
-  share = record {
-    mr2 = card .mr2;
-    open? = λ b. false;
-    counter = 0;
-    history = λ q. [];
-    ledger = record { at = 0; owing = pos 0; since = 0; skipped = 0; level = awake };
-  };
-}
+fresh card = record { card = card; last = none; share = λ p. freshShare card }
 
 -- every entry of the past passed all its checks
 unfoldable pub AllTaken : Card → Past → Type 0
 AllTaken card [] = Unit {0}
-AllTaken card (x ∷ t) = ((e : Entry) × (x ≡ taken card t e) × (entryRefusal card t e ≡ none)) × AllTaken card t
+AllTaken card (x ∷ t) = ((e : Entry) × (x ≡ takenFor card t e) × (entryRefusal card t e ≡ none)) × AllTaken card t
 
--- the ledger was moved on to cycle c, or is where the last entry left it, and no cycle up to there fails
-unfoldable pub PaidTo : Card → Past → ℕ → Type 0
-PaidTo card past c = firstOn lpddr3 (bookOf card past) (suc (standsAt past c)) ≡ none
+-- each part's ledger was moved on to cycle c p, or is where the last entry left it, and no cycle up to there fails
+unfoldable pub PaidTo : Card → Past → (ℕ → ℕ) → Type 0
+PaidTo card past c = (p : ℕ) → hasPart card p ≡ true → firstOn lpddr3 (bookOf card (ofPart p past)) (suc (standsAt past c p)) ≡ none

@@ -16,9 +16,9 @@ use Rattle.rules.specs.Pins.{wrongBits, reserved}
 use Rattle.rules.specs.Past.{Past, isOpen, counterAt, commandCount}
 use Rattle.rules.specs.States.{stateGood}
 use Rattle.rules.specs.Folds.{Found, Rule}
-use Rattle.rules.specs.Delays.{find, delayRules}
-use Rattle.rules.specs.Levels.{plain, barred}
-use Rattle.rules.specs.Entries.{Entry, entry, readAfter, moveOf, judgedAs, pastWith, pastOver}
+use Rattle.rules.specs.Delays.{lookBoth, find, delayRules}
+use Rattle.rules.specs.Levels.{plain, barred, clash}
+use Rattle.rules.specs.Entries.{Entry, entry, ownFor, othersFor, readFor, moveOf, judgedAs, pastWith, pastOver}
 use Rattle.rules.specs.Account.{Terms, lpddr3, Book, ledgerOn, sinceOn}
 use Rattle.rules.specs.Clock.{booksOf}
 use Rattle.rules.specs.Checks.{Refusal, refusal, valueGood}
@@ -109,16 +109,19 @@ paidBelow k bs t = record {
 -- ---- the checks of an entry against its own past, and of the end, in document 01's order
 unfoldable pub entryReads : Card → Past → Entry → List Check
 entryReads card past e =
-    let r = readAfter card past e in
+    let own = ownFor card past e in
+    let others = othersFor card past e in
+    let r = readFor card past e in
     let c = judgedAs r in
     plainly 5 (Above past (e .stamp)) ∷
     paidBelow lpddr3 (booksOf card past) (e .stamp) ∷
     plainly 6 (¬ (r ≡ plain wrongBits)) ∷
+    plainly 24 (¬ (r ≡ clash)) ∷
     plainly 7 (¬ (r ≡ plain reserved)) ∷
-    plainly 8 (stateGood (λ b. isOpen b past) (counterAt past) c ≡ true) ∷
+    plainly 8 (stateGood (λ b. isOpen b own) (counterAt own) c ≡ true) ∷
     plainly 16 (¬ (r ≡ barred)) ∷
     plainly 9 (valueGood card c ≡ true) ∷
-    inTime (find card past) (delayRules (delaysOf card) c (moveOf r) (counterAt past)) (e .stamp) ∷
+    inTime (lookBoth (find card own) (find card others)) (delayRules (delaysOf card) c (moveOf r) (counterAt own)) (e .stamp) ∷
     paidAt lpddr3 (booksOf card (pastWith card past e)) (e .stamp) ∷ []
 
 unfoldable pub endReads : Card → Past → ℕ → List Check
@@ -139,7 +142,7 @@ pub record Accepts (card : Card) (past : Past) (es : List Entry) (end m n : ℕ)
   pub entries : (i : ℕ) → i < length es → AllPass (readsAt card past es i)
   pub ended : AllPass (endReads card (pastOver card past es) end)
   pub commands : m ≡ commandCount (pastOver card past es)
-  pub refreshes : n ≡ refreshCount (pastOver card past es)
+  pub refreshes : n ≡ refreshCount card (pastOver card past es)
   pub ledgers : l ≡ ledgersAt card (pastOver card past es) end
 
 -- refused so at place i: an entry's, or the end's behind all of them

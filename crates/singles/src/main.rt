@@ -1,78 +1,68 @@
-// The documents' cases and other points, by single steps. A line for each entry, end and move: the case's number, then `taken`, the ledger's number,
-// or `refused` with the refusal's number, rule and cycle. Two lines more for ACT bank 5, row 1234 hex: its pins as written, and bank and row as read.
+// The documents' cases and other points, by single steps. A line for each entry, end and move: the case's number, then `taken`, the ledger's number (at an end
+// of two parts each one's), or `refused` with the refusal's number, rule and cycle; and a line `changed` where the share of a part that is not there does not come
+// back to the bit. Behind them what the writer does for the part that it is told, and what is read.
 // The cases are told in cases.txt; the file stdout is worked out from it by expected.py, over the list of entries.
 mod lines;
 mod places;
+mod same;
 mod table;
+mod writing;
 
 use bank::Record;
-use pins::Command;
-use pins::Decoded;
+
+// A part that the card does not have is not looked at.
+fn stays(paired: bool, kept: bool) {
+    if paired | kept {
+        return;
+    }
+    lines::of_change();
+}
 
 fn steps(rec: Record, stamp: u32, pins: u32) -> Record {
     let stepped = step::step(rec, stamp, pins);
     let answer = stepped.answer;
     lines::of_step(answer);
+    let kept = same::shares(rec.second, stepped.rec.second);
+    stays(rec.card.paired, kept);
     stepped.rec
 }
 
 fn ends(rec: Record, end: u32) -> Record {
-    lines::of_ledger(bank::close(rec, end));
+    let paid = bank::close(rec, end);
+    lines::of_end(rec.card.paired, paid);
+    let kept = same::ledgers(rec.second.ledger, paid.ledgers.second);
+    stays(rec.card.paired, kept);
     rec
 }
 
 // The ledger is taken out of the record, moved on and put back.
-fn moves(rec: Record, to: u32) -> Record {
-    let after = ledger::moved(rec.share.ledger, rec.card, to);
-    lines::of_ledger(after);
+fn moves(rec: Record, part: u32, to: u32) -> Record {
+    let share = places::share_of(rec, part);
+    let after = ledger::moved(share.ledger, rec.card, to);
+    lines::of_move(after);
     let ledger = after.ledger;
-    let mut share = rec.share;
-    share.ledger = ledger;
-    let mut next = rec;
-    next.share = share;
-    next
+    let mut next = share;
+    next.ledger = ledger;
+    places::with_share(rec, part, next)
 }
 
-fn called(rec: Record, case: u32, what: u32, cycle: u32) -> Record {
+fn called(rec: Record, case: u32, part: u32, what: u32, cycle: u32) -> Record {
     if places::PERIOD <= what {
-        return places::put(rec, what, cycle);
+        return places::put(rec, part, what, cycle);
     }
     lines::of_case(case);
     match what {
         table::END => ends(rec, cycle),
-        table::MOVE => moves(rec, cycle),
+        table::MOVE => moves(rec, part, cycle),
         _ => steps(rec, cycle, what),
     }
-}
-
-// The case of ACT bank 5, row 1234 hex.
-fn shows_written() {
-    let mut field = [0u8; 10];
-    pins::write_entry(
-        0,
-        Command::Act {
-            bank: 5,
-            row: 0x1234,
-        },
-        &mut field,
-    );
-    lines::of_three(field[7], field[8], field[9]);
-}
-
-fn shows_read() {
-    let Decoded::Good(command) = pins::decode(0x20d2ca) else {
-        return;
-    };
-    let Command::Act { bank, row } = command else {
-        return;
-    };
-    lines::of_act(bank, row);
 }
 
 fn main() {
     let fresh = bank::fresh_record(card::bench());
     let mut rec = fresh;
     let mut case: u32 = 0;
+    let mut part: u32 = 0;
     let mut i: usize = 0;
     while i < table::COUNT {
         let what = table::what_at(i);
@@ -80,11 +70,13 @@ fn main() {
         if what == table::CASE {
             rec = fresh;
             case = cycle;
+            part = 0;
+        } else if what == table::PART {
+            part = cycle;
         } else {
-            rec = called(rec, case, what, cycle);
+            rec = called(rec, case, part, what, cycle);
         }
         i += 1;
     }
-    shows_written();
-    shows_read();
+    writing::shows();
 }

@@ -62,75 +62,80 @@ pub const TCKE_FLOOR: u32 = 0x3000024;
 // Whether it has low clock-enable.
 pub const SLEEPS: u32 = 0x3000028;
 
+// Whether it is of two parts, and the gap between them.
+pub const PAIRED: u32 = 0x3000029;
+
+pub const GAP: u32 = 0x300002a;
+
 // The ledger.
-pub const LEDGER_AT: u32 = 0x3000029;
+pub const LEDGER_AT: u32 = 0x300002b;
 
-pub const OWED: u32 = 0x300002a;
+pub const OWED: u32 = 0x300002c;
 
-pub const SINCE: u32 = 0x300002b;
+pub const SINCE: u32 = 0x300002d;
 
-pub const SKIPPED: u32 = 0x300002c;
+pub const SKIPPED: u32 = 0x300002e;
 
-pub const LEVEL: u32 = 0x300002d;
+pub const LEVEL: u32 = 0x300002f;
 
 // The record's own numbers, and the last entry.
-pub const MR2: u32 = 0x300002e;
+pub const MR2: u32 = 0x3000030;
 
-pub const COUNTER: u32 = 0x300002f;
+pub const COUNTER: u32 = 0x3000031;
 
-pub const FOUR_COUNT: u32 = 0x3000030;
+pub const FOUR_COUNT: u32 = 0x3000032;
 
-pub const LAST: u32 = 0x3000031;
+pub const LAST: u32 = 0x3000033;
 
-pub const NO_LAST: u32 = 0x3000032;
+pub const NO_LAST: u32 = 0x3000034;
 
 // Stamps that are remembered: of all banks, of clock-enable, and of bank 0.
-pub const AT_FOUR: u32 = 0x3000033;
+pub const AT_FOUR: u32 = 0x3000035;
 
-pub const AT_MRW: u32 = 0x3000034;
+pub const AT_MRW: u32 = 0x3000036;
 
-pub const AT_MRR: u32 = 0x3000035;
+pub const AT_MRR: u32 = 0x3000037;
 
-pub const AT_REFAB: u32 = 0x3000036;
+pub const AT_REFAB: u32 = 0x3000038;
 
-pub const AT_REFPB: u32 = 0x3000037;
+pub const AT_REFPB: u32 = 0x3000039;
 
-pub const AT_PREA: u32 = 0x3000038;
+pub const AT_PREA: u32 = 0x300003a;
 
-pub const AT_RD: u32 = 0x3000039;
+pub const AT_RD: u32 = 0x300003b;
 
-pub const AT_WR: u32 = 0x300003a;
+pub const AT_WR: u32 = 0x300003c;
 
-pub const AT_TURN: u32 = 0x300003b;
+pub const AT_TURN: u32 = 0x300003d;
 
-pub const AT_FALL: u32 = 0x300003c;
+pub const AT_FALL: u32 = 0x300003e;
 
-pub const AT_POWER_EXIT: u32 = 0x300003d;
+pub const AT_POWER_EXIT: u32 = 0x300003f;
 
-pub const AT_SELF_EXIT: u32 = 0x300003e;
+pub const AT_SELF_EXIT: u32 = 0x3000040;
 
-pub const AT_REFPB0: u32 = 0x300003f;
+pub const AT_REFPB0: u32 = 0x3000041;
 
-pub const AT_PRE0: u32 = 0x3000040;
+pub const AT_PRE0: u32 = 0x3000042;
 
-pub const AT_ACT0: u32 = 0x3000041;
+pub const AT_ACT0: u32 = 0x3000043;
 
-pub const AT_RD0: u32 = 0x3000042;
+pub const AT_RD0: u32 = 0x3000044;
 
-pub const AT_RDA0: u32 = 0x3000043;
+pub const AT_RDA0: u32 = 0x3000045;
 
-pub const AT_WR0: u32 = 0x3000044;
+pub const AT_WR0: u32 = 0x3000046;
 
-pub const AT_WRA0: u32 = 0x3000045;
+pub const AT_WRA0: u32 = 0x3000047;
 
 // MR2 values that are remembered.
-pub const NOTED_WR: u32 = 0x3000046;
+pub const NOTED_WR: u32 = 0x3000048;
 
-pub const NOTED_TURN: u32 = 0x3000047;
+pub const NOTED_TURN: u32 = 0x3000049;
 
-pub const NOTED_WR0: u32 = 0x3000048;
+pub const NOTED_WR0: u32 = 0x300004a;
 
-pub const NOTED_WRA0: u32 = 0x3000049;
+pub const NOTED_WRA0: u32 = 0x300004b;
 
 fn byte(value: u32) -> u8 {
     (value % 256) as u8
@@ -149,6 +154,7 @@ fn seen_at(value: u32) -> Once {
 
 fn noted_at(noted: Noted, value: u32) -> Noted {
     let mut next = noted;
+    next.seen = true;
     next.at = value;
     next
 }
@@ -203,6 +209,8 @@ fn into_card(card: Card, place: u32, value: u32) -> Card {
         GROUPS => next.groups = (value % 65536) as u16,
         TREFI => next.trefi = value,
         SLEEPS => next.sleeps = value == 1,
+        PAIRED => next.paired = value == 1,
+        GAP => next.gap = byte(value),
         _ => {}
     }
     next
@@ -336,10 +344,28 @@ fn into_last(last: Once, place: u32, value: u32) -> Once {
     }
 }
 
-pub fn put(rec: Record, place: u32, value: u32) -> Record {
-    Record {
-        card: into_card(rec.card, place, value),
-        last: into_last(rec.last, place, value),
-        share: into_share(rec.share, place, value),
+pub fn share_of(rec: Record, part: u32) -> Share {
+    if part == 0 {
+        return rec.first;
     }
+    rec.second
+}
+
+pub fn with_share(rec: Record, part: u32, share: Share) -> Record {
+    let mut next = rec;
+    if part == 0 {
+        next.first = share;
+        return next;
+    }
+    next.second = share;
+    next
+}
+
+// A place of a share is that of this part's.
+pub fn put(rec: Record, part: u32, place: u32, value: u32) -> Record {
+    let share = into_share(share_of(rec, part), place, value);
+    let mut next = with_share(rec, part, share);
+    next.card = into_card(rec.card, place, value);
+    next.last = into_last(rec.last, place, value);
+    next
 }

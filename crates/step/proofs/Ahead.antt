@@ -1,89 +1,102 @@
--- What the quick run takes, and what the table takes, is a part of the run.
+-- What the quick run takes is a part of the run, whatever the share that is not looked at holds.
 use Prim.Native.Nat.{ℕ, zero, suc}
-use mathlib.Core.Path.{_≡_, refl, sym, _∙_}
-use mathlib.Core.Bool.{Bool, true, false, _&&_}
+use mathlib.Core.Path.{_≡_, refl, sym, _∙_, subst}
+use mathlib.Core.Bool.{Bool, true, false, cond}
 use mathlib.Core.List.{List}
+use mathlib.Core.Option.{none}
 use lib.ListN.{drop}
-use Rattle.rules.specs.Units.{delaysOf}
-use Rattle.rules.specs.Lent.{readIn, commandIn, moveIn, lentGood, stepRefusal}
+use Rattle.rules.specs.Commands.{NOP, is}
+use Rattle.rules.specs.Entries.{Entry, recordedAs}
 use Rattle.rules.proofs.Tests.{both-true}
 use Rattle.card.specs.declared.Delays.{Delays}
 use Rattle.pins.specs.Fronts.{frontOf}
-use Rattle.ledger.specs.Values.{isNone}
+use Rattle.bank.specs.declared.Share.{Share}
 use Rattle.bank.specs.declared.Record.{Record}
-use Rattle.bank.specs.Values.{lentOf}
-use Rattle.bank.specs.After.{recordAfter}
-use Rattle.step.specs.declared.offering.Ruling.{Ruling}
-use Rattle.step.specs.Values.{refusalOf, recordWith}
-use Rattle.step.specs.Runs.{entryAt, takes, commandsBy, refreshesBy, ran, runOf}
-use Rattle.step.specs.Parts.{Prepared, Ruled}
+use Rattle.bank.proofs.Sizes.{ShareWhole}
+use Rattle.step.specs.declared.single.Single.{Single}
+use Rattle.step.specs.declared.single.Gone.{Gone}
+use Rattle.step.specs.Values.{recordWith}
+use Rattle.step.specs.Runs.{entryAt, takes, commandsBy, refreshesBy, behind}
+use Rattle.step.specs.Single.{whole, gone, goneBehind, ranWith, readBy, refusalBy, singleWith, Ready}
 use Rattle.step.specs.Quick.{goesOn, quickOf}
-use Rattle.step.proofs.Answers.{none-so}
-use Rattle.step.proofs.Leaves.{ruled-told, ruled-record}
 use Rattle.step.proofs.Kept.{Good, good-with}
-use Rattle.step.proofs.Onward.{takes-if, run-on, run-stops, behind-none, Part, part-none, part-on}
+use Rattle.step.proofs.Onward.{takes-if, Part, part-none, part-on}
+use Rattle.step.proofs.Alone.{commands-by, refreshes-by, good, refusals, record-with}
 use Rattle.step.proofs.Cleared.{Clears, ready-taken}
 
--- the delays of a card are its delays behind an entry
-pub prepared-with : (d : Delays) (rec : Record) (bs : List ℕ) → Prepared rec d → Good (recordWith rec (entryAt bs)) → Prepared (recordWith rec (entryAt bs)) d
-unfolding recordWith recordAfter lentOf
-prepared-with d rec bs s g = record { good = g .passed; clocks = s .clocks }
+-- ---- sound behind an entry that is taken
+module _ (d : Delays) (s : Single) (ready : Ready s d) (arrays : ShareWhole (s .share)) where
+  -- with any share that has its lengths
+  pub good-whole : Good (whole (s .share) s)
+  good-whole = record { passed = good (s .share) s (ready .single) ∙ ready .sound; arrays = record { first = arrays; second = arrays } }
+
+  sound-next : (e : Entry) → refusalBy s e ≡ none → Ready (singleWith s e) d × ShareWhole (singleWith s e .share)
+  unfolding singleWith
+  sound-next e n =
+      let x = s .share in
+      let there : Good (whole x (singleWith s e)) =
+      subst Good (record-with x s (ready .single) e) (good-with (whole x s) e good-whole (refusals x s (ready .single) e ∙ n)) in (
+        record { single = ready .single; sound = sym (good x (singleWith s e) (ready .single)) ∙ there .passed; clocks = ready .clocks },
+        there .arrays .first,
+      )
 
 -- ---- the quick run
 -- an entry that it takes is taken, and is no counted refresh
-module _ (d : Delays) (rec : Record) (bs : List ℕ) (s : Prepared rec d) (e : goesOn d rec (frontOf bs) ≡ true) where
-  cleared : Clears d rec (frontOf bs .stamp) (frontOf bs .pins)
+module _ (d : Delays) (s : Single) (bs : List ℕ) (ready : Ready s d) (e : goesOn d s (frontOf bs) ≡ true) where
+  cleared : Clears d s (frontOf bs .stamp) (frontOf bs .pins)
   unfolding goesOn
-  cleared = ready-taken d rec (frontOf bs .stamp) (frontOf bs .pins) s (both-true (frontOf bs .whole) _ e .1)
+  cleared = ready-taken d s (frontOf bs .stamp) (frontOf bs .pins) ready (both-true (frontOf bs .whole) _ e .1)
 
-  quick-takes : takes rec bs ≡ true
-  unfolding goesOn
-  quick-takes = takes-if rec bs (both-true (frontOf bs .whole) _ e .0) (cleared .taken)
+  module _ (x : Share) where
+    quick-takes : takes (whole x s) bs ≡ true
+    unfolding goesOn
+    quick-takes = takes-if (whole x s) bs (both-true (frontOf bs .whole) _ e .0) (refusals x s (ready .single) (entryAt bs) ∙ cleared .taken)
 
-  quick-uncounted : refreshesBy rec (entryAt bs) ≡ 0
-  unfolding refreshesBy
-  quick-uncounted = rw (cleared .uncounted)
+    quick-uncounted : refreshesBy (whole x s) (entryAt bs) ≡ 0
+    quick-uncounted = refreshes-by x s (ready .single) (entryAt bs) ∙ rw (cleared .uncounted)
 
-pub quick-part : (n : ℕ) (d : Delays) (rec : Record) (bs : List ℕ) → Prepared rec d → Good rec → Part n rec bs (quickOf n d rec bs)
-unfolding quickOf
-quick-part zero d rec bs s g = part-none 0 rec bs
-quick-part (suc n) d rec bs s g = go (goesOn d rec (frontOf bs)) refl (quick-part n d (recordWith rec (entryAt bs)) (drop 10 bs))
+    -- what it adds is what the run adds
+    quick-adds : (g : Gone) → behind 10 (commandsBy (whole x s) (entryAt bs)) (refreshesBy (whole x s) (entryAt bs)) (ranWith x g)
+        ≡ ranWith x (goneBehind 10 (cond (is NOP (recordedAs (readBy s (entryAt bs)))) 0 1) 0 g)
+    unfolding ranWith
+    quick-adds g = λ i. behind 10 (commands-by x s (ready .single) (entryAt bs) i) (quick-uncounted i) (ranWith x g)
+
+module _ (n : ℕ) (d : Delays) (s : Single) (bs : List ℕ) where
+  abbrev then : Gone
+  then = quickOf n d (singleWith s (entryAt bs)) (drop 10 bs)
+
+  quick-on : goesOn d s (frontOf bs) ≡ true → quickOf (suc n) d s bs ≡ goneBehind 10 (cond (is NOP (recordedAs (readBy s (entryAt bs)))) 0 1) 0 then
+  unfolding quickOf
+  quick-on e = rw e
+
+  quick-off : goesOn d s (frontOf bs) ≡ false → quickOf (suc n) d s bs ≡ gone s 0 0 0
+  unfolding quickOf
+  quick-off e = rw e
+
+abbrev PartBy : ℕ → Single → List ℕ → Share → Gone → Type 0
+PartBy n s bs x g = Part n (whole x s) bs (ranWith x g)
+
+abbrev PartFor : ℕ → Delays → Single → List ℕ → Type 0
+PartFor n d s bs = Ready s d → ShareWhole (s .share) → (x : Share) → PartBy n s bs x (quickOf n d s bs)
+
+quick-none : (d : Delays) (s : Single) (bs : List ℕ) → PartFor 0 d s bs
+unfolding quickOf ranWith
+quick-none d s bs ready arrays x = part-none 0 (whole x s) bs
+
+quick-more : (n : ℕ) (d : Delays) (s : Single) (bs : List ℕ) → PartFor n d (singleWith s (entryAt bs)) (drop 10 bs) → PartFor (suc n) d s bs
+unfolding ranWith
+quick-more n d s bs ih ready arrays x = go (goesOn d s (frontOf bs)) refl
   where
-    go : (b : Bool) → goesOn d rec (frontOf bs) ≡ b
-        → (Prepared (recordWith rec (entryAt bs)) d → Good (recordWith rec (entryAt bs)) → Part n (recordWith rec (entryAt bs)) (drop 10 bs) (quickOf n d (recordWith rec (entryAt bs)) (drop 10 bs)))
-        → Part (suc n) rec bs (quickOf (suc n) d rec bs)
-    go false e ih = unfold quickOf in rw e (part-none (suc n) rec bs)
-    go true e ih =
-        let next = good-with rec (entryAt bs) g (cleared d rec bs s e .taken) in
-        let rest = ih (prepared-with d rec bs s next) next in
-        unfold quickOf in rw (e, ← quick-uncounted d rec bs s e) (part-on n rec bs (quick-takes d rec bs s e) _ rest)
+    go : (b : Bool) → goesOn d s (frontOf bs) ≡ b → PartBy (suc n) s bs x (quickOf (suc n) d s bs)
+    go false e = subst (PartBy (suc n) s bs x) (sym (quick-off n d s bs e)) (unfold ranWith in part-none (suc n) (whole x s) bs)
+    go true e =
+        let next = sound-next d s ready arrays (entryAt bs) (cleared d s bs ready e .taken) in
+        let g = then n d s bs in
+        let rest : Part n (recordWith (whole x s) (entryAt bs)) (drop 10 bs) (ranWith x g) =
+        subst (λ (r : Record). Part n r (drop 10 bs) (ranWith x g)) (sym (record-with x s (ready .single) (entryAt bs))) (ih (next .0) (next .1) x) in
+        subst (PartBy (suc n) s bs x) (sym (quick-on n d s bs e))
+        (subst (Part (suc n) (whole x s) bs) (quick-adds d s bs ready e x g) (part-on n (whole x s) bs (quick-takes d s bs ready e x) (ranWith x g) rest))
 
--- ---- the table
-module _ (rec : Record) (bs : List ℕ) where
-  pub table-none : frontOf bs .whole ≡ false → ran rec 0 0 0 ≡ runOf 1 rec bs
-  unfolding takes
-  table-none e = sym (run-stops rec bs (rw e) 1)
-
-  module _ (good : lentGood (lentOf rec) ≡ true) (w : Ruling)
-      (ruled : Ruled (delaysOf (lentOf rec .card)) (lentOf rec) (readIn (lentOf rec) (entryAt bs)) (frontOf bs .stamp) w) where
-    told : refusalOf (w .answer) ≡ stepRefusal (lentOf rec) (entryAt bs)
-    told = ruled-told rec (entryAt bs) good w ruled
-
-    pub table-refused : isNone (refusalOf (w .answer)) ≡ false → ran rec 0 0 0 ≡ runOf 1 rec bs
-    unfolding takes
-    table-refused e = sym (run-stops rec bs (refused (frontOf bs .whole)) 1)
-      where
-        refused : (b : Bool) → (b && isNone (stepRefusal (lentOf rec) (entryAt bs))) ≡ false
-        refused true = rw (← told) e
-        refused false = refl
-
-    pub table-taken : frontOf bs .whole ≡ true → isNone (refusalOf (w .answer)) ≡ true → (s : Record) (m f : ℕ)
-        → s ≡ recordAfter rec (commandIn (lentOf rec) (entryAt bs)) (moveIn (lentOf rec) (entryAt bs)) (frontOf bs .stamp) (w .ledger) → m ≡ commandsBy rec (entryAt bs) → f ≡ refreshesBy rec (entryAt bs)
-        → ran s 10 m f ≡ runOf 1 rec bs
-    unfolding runOf
-    table-taken e n s m f se me fe =
-        let none-told = none-so _ n in
-        let entry = entryAt bs in
-        let there = ruled-record rec entry good w ruled none-told s se in
-        let on = run-on rec bs (takes-if rec bs e (sym told ∙ none-told)) 0 in
-        (λ i. ran (there i) 10 (me i) (fe i)) ∙ sym (behind-none (ran (recordWith rec entry) 10 (commandsBy rec entry) (refreshesBy rec entry))) ∙ sym on
+pub quick-part : (n : ℕ) (d : Delays) (s : Single) (bs : List ℕ) → PartFor n d s bs
+quick-part zero d s bs = quick-none d s bs
+quick-part (suc n) d s bs = quick-more n d s bs (quick-part n d (singleWith s (entryAt bs)) (drop 10 bs))

@@ -7,6 +7,7 @@ use mathlib.Core.Option.{Option, none, some}
 use native.Mathlib.Omega.{arith}
 use denote.Enum.Declared.{tagOf}
 use types.Run.{OneOf, miss}
+use Rattle.rules.specs.Whose.{Whose}
 use Rattle.rules.specs.Levels.{Read}
 use Rattle.rules.specs.Folds.{orElse}
 use Rattle.rules.specs.Entries.{recordedAs, moveOf}
@@ -15,19 +16,20 @@ use Rattle.ledger.specs.Values.{isNone}
 use Rattle.bank.specs.declared.Record.{Record}
 use Rattle.bank.specs.After.{Changed}
 use Rattle.step.specs.declared.Answer.{Answer}
-use Rattle.step.specs.declared.Answer.the-variants.{Taken, BadRecord, Early, Overdue, WrongBits, Reserved, State, Barred, Value, TooSoon}
+use Rattle.step.specs.declared.Answer.the-variants.{Taken, BadRecord, Early, Overdue, WrongBits, Clash, Reserved, State, Barred, Value, TooSoon}
 use Rattle.step.specs.declared.offering.Ruling.{Ruling}
 use Rattle.step.specs.Values.{refusalOf}
 use Rattle.step.specs.Parts.{Settled}
 use Rattle.step.proofs.Answer.{the-type}
 
-pub not-taken : (x : Answer) → OneOf (1 ∷ 2 ∷ 3 ∷ 4 ∷ 5 ∷ 6 ∷ 7 ∷ 8 ∷ 9 ∷ []) (tagOf the-type x) → isNone (refusalOf x) ≡ false
+pub not-taken : (x : Answer) → OneOf (1 ∷ 2 ∷ 3 ∷ 4 ∷ 5 ∷ 6 ∷ 7 ∷ 8 ∷ 9 ∷ 10 ∷ []) (tagOf the-type x) → isNone (refusalOf x) ≡ false
 unfolding refusalOf isNone
-not-taken Taken o = absurd (miss (1 ∷ 2 ∷ 3 ∷ 4 ∷ 5 ∷ 6 ∷ 7 ∷ 8 ∷ 9 ∷ []) 0 tt o)
+not-taken Taken o = absurd (miss (1 ∷ 2 ∷ 3 ∷ 4 ∷ 5 ∷ 6 ∷ 7 ∷ 8 ∷ 9 ∷ 10 ∷ []) 0 tt o)
 not-taken BadRecord o = refl
 not-taken Early o = refl
 not-taken (Overdue q t) o = refl
 not-taken WrongBits o = refl
+not-taken Clash o = refl
 not-taken Reserved o = refl
 not-taken State o = refl
 not-taken Barred o = refl
@@ -58,19 +60,19 @@ or-first first then e = go (refusalOf first) e
 pub by-test : {x y z : Bool} → x ≡ z → x ≡ y → y ≡ z
 by-test e f = sym f ∙ e
 
-module _ (rec : Record) (t : ℕ) (x : Read) (w : Ruling) where
-  pub kept-so : isNone (refusalOf (w .answer)) ≡ false → Settled rec t x w (record { rec = rec; answer = w .answer })
+module _ (rec : Record) (t : ℕ) (w : Whose) (x : Read) (y : Ruling) where
+  pub kept-so : isNone (refusalOf (y .answer)) ≡ false → Settled rec t w x y (record { rec = rec; answer = y .answer })
   unfolding isNone
   kept-so e = record {
     told = refl;
-    kept = λ y n. refl;
+    kept = λ z n. refl;
     changed = λ n. absurd (apart (sym (ap isNone n) ∙ e));
   }
 
-  pub changed-so : (s : Record) → Changed rec t (recordedAs x) (moveOf x) (w .ledger) s → isNone (refusalOf (w .answer)) ≡ true → Settled rec t x w (record { rec = s; answer = Taken })
+  pub changed-so : (s : Record) → Changed rec t w (recordedAs x) (moveOf x) (y .ledgers) s → isNone (refusalOf (y .answer)) ≡ true → Settled rec t w x y (record { rec = s; answer = Taken })
   unfolding isNone refusalOf
   changed-so s h e = record {
-    told = sym (none-so (refusalOf (w .answer)) e);
-    kept = λ y n. absurd (apart (sym e ∙ ap isNone n));
+    told = sym (none-so (refusalOf (y .answer)) e);
+    kept = λ z n. absurd (apart (sym e ∙ ap isNone n));
     changed = λ n. h;
   }

@@ -5,19 +5,22 @@ use mathlib.Core.Bool.{Bool, true, false, cond}
 use mathlib.Core.List.{List}
 use lib.ListN.{length, set, replicate, length-set}
 use Rattle.rules.specs.Commands.{Command, ACT, PREA, is, bankOf}
+use Rattle.rules.specs.Whose.{Whose, isOf}
 use Rattle.rules.specs.Levels.{Move}
 use Rattle.card.specs.declared.Card.{Card}
 use Rattle.ledger.specs.declared.Ledger.{Ledger}
 use Rattle.bank.specs.declared.Each.{Each}
 use Rattle.bank.specs.declared.NotedEach.{NotedEach}
+use Rattle.bank.specs.declared.Share.{Share}
+use Rattle.bank.specs.declared.Ledgers.{Ledgers}
 use Rattle.bank.specs.declared.Record.{Record}
 use Rattle.bank.specs.Values.{neverEach, neverNotedEach, freshShare, freshOf}
-use Rattle.bank.specs.After.{eachIf, notedEachIf, shuts, openedAfter, stampedAfter, banksAfter, shareAfter, recordAfter}
-use Rattle.bank.proofs.Sizes.{EachWhole, NotedWhole, Whole}
+use Rattle.bank.specs.After.{eachIf, notedEachIf, shuts, openedAfter, stampedAfter, banksAfter, shareAfter, withLedger, shareTaken, recordAfter}
+use Rattle.bank.proofs.Sizes.{EachWhole, NotedWhole, ShareWhole, Whole}
 
-pub fresh-whole : (card : Card) → Whole (freshOf card)
-unfolding freshOf freshShare neverEach neverNotedEach
-fresh-whole card = record {
+fresh-share : (m : ℕ) → ShareWhole (freshShare m)
+unfolding freshShare neverEach neverNotedEach
+fresh-share m = record {
   opened = refl;
   refpb = each;
   pre = each;
@@ -33,6 +36,10 @@ fresh-whole card = record {
 
     noted : NotedWhole neverNotedEach
     noted = unfold neverNotedEach in record { seen = refl; at = refl; mr2 = refl }
+
+pub fresh-whole : (card : Card) → Whole (freshOf card)
+unfolding freshOf
+fresh-whole card = record { first = fresh-share (card .mr2); second = fresh-share (card .mr2) }
 
 each-kept : (now : Bool) (k t : ℕ) (x : Each) → EachWhole x → EachWhole (eachIf now k t x)
 unfolding eachIf
@@ -62,15 +69,39 @@ opened-kept c o w =
     go true = refl
     go false = w
 
-pub after-whole : (r : Record) (c : Command) (v : Move) (t : ℕ) (g : Ledger) → Whole r → Whole (recordAfter r c v t g)
-unfolding recordAfter shareAfter banksAfter stampedAfter
-after-whole r c v t g w = record {
-  opened = opened-kept c (r .share .banks .opened) (w .opened);
-  refpb = each-kept _ _ t (r .share .banks .refpb) (w .refpb);
-  pre = each-kept _ _ t (r .share .banks .pre) (w .pre);
-  act = each-kept _ _ t (r .share .banks .act) (w .act);
-  rd = each-kept _ _ t (r .share .banks .rd) (w .rd);
-  rda = each-kept _ _ t (r .share .banks .rda) (w .rda);
-  wr = noted-kept _ _ t _ (r .share .banks .wr) (w .wr);
-  wra = noted-kept _ _ t _ (r .share .banks .wra) (w .wra);
+after-share : (s : Share) (c : Command) (v : Move) (t : ℕ) (g : Ledger) → ShareWhole s → ShareWhole (shareAfter s c v t g)
+unfolding shareAfter banksAfter stampedAfter
+after-share s c v t g w = record {
+  opened = opened-kept c (s .banks .opened) (w .opened);
+  refpb = each-kept _ _ t (s .banks .refpb) (w .refpb);
+  pre = each-kept _ _ t (s .banks .pre) (w .pre);
+  act = each-kept _ _ t (s .banks .act) (w .act);
+  rd = each-kept _ _ t (s .banks .rd) (w .rd);
+  rda = each-kept _ _ t (s .banks .rda) (w .rda);
+  wr = noted-kept _ _ t _ (s .banks .wr) (w .wr);
+  wra = noted-kept _ _ t _ (s .banks .wra) (w .wra);
+}
+
+ledger-share : (s : Share) (g : Ledger) → ShareWhole s → ShareWhole (withLedger s g)
+ledger-share s g w = record {
+  opened = w .opened;
+  refpb = w .refpb;
+  pre = w .pre;
+  act = w .act;
+  rd = w .rd;
+  rda = w .rda;
+  wr = w .wr;
+  wra = w .wra;
+}
+
+taken-share : (own : Bool) (s : Share) (c : Command) (v : Move) (t : ℕ) (g : Ledger) → ShareWhole s → ShareWhole (shareTaken own s c v t g)
+unfolding shareTaken
+taken-share true s c v t g w = after-share s c v t g w
+taken-share false s c v t g w = ledger-share s g w
+
+pub after-whole : (r : Record) (o : Whose) (c : Command) (v : Move) (t : ℕ) (g : Ledgers) → Whole r → Whole (recordAfter r o c v t g)
+unfolding recordAfter
+after-whole r o c v t g w = record {
+  first = taken-share (isOf 0 o) (r .first) c v t (g .first) (w .first);
+  second = taken-share (isOf 1 o) (r .second) c v t (g .second) (w .second);
 }

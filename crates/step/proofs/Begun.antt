@@ -23,16 +23,16 @@ use Rattle.bank.specs.After.{onceAt}
 use Rattle.bank.specs.declared.Banks.{Banks}
 use Rattle.bank.specs.declared.Bus.{Bus}
 use Rattle.bank.specs.declared.Four.{Four}
-use Rattle.bank.specs.declared.Record.{Record}
+use Rattle.step.specs.declared.single.Single.{Single}
 use Rattle.step.specs.Ready.{standsOf}
-use Rattle.step.specs.Runs.{ran, behind}
+use Rattle.step.specs.Single.{gone, goneBehind}
 use Rattle.step.specs.Quick.{goesOn, quickOf, nowOf, EndArgs}
-use Rattle.step.proofs.Onward.{from-start, behind-none}
+use Rattle.step.proofs.Farther.{from-start, behind-none}
 use Rattle.step.proofs.Cleared.{ready-parts}
 use Rattle.step.proofs.Standing.{not-so, stands-so, unrefused}
 
 -- ---- the end of a run
-pub end-ledger : (rec : Record) (t : ℕ) → EndArgs rec t → (r : After)
+pub end-ledger : (rec : Single) (t : ℕ) → EndArgs rec t → (r : After)
     → Left (moveRefusal (cardOf (rec .card)) (ledgerOf (rec .share .ledger)) t) (ledgerOf (rec .share .ledger)) (movedOn (cardOf (rec .card)) (ledgerOf (rec .share .ledger)) t) r
     → r .ledger ≡ codeOf (ledgerTo (beatOf (cardOf (rec .card))) (ledgerOf (rec .share .ledger)) t)
 end-ledger rec t a r l = sym (code-is (r .ledger)) ∙ ap codeOf (l .ledger ∙ moves)
@@ -42,8 +42,8 @@ end-ledger rec t a r l = sym (code-is (r .ledger)) ∙ ap codeOf (l .ledger ∙ 
     moves = rw (unrefused rec t a) (unfold unlessRefused movedOn in refl)
 
 -- what a loop keeps: the run from the start is the run from here
-pub record Going (d : Delays) (rec : Record) (v : List ℕ) (most : ℕ) (banks : Banks) (bus : Bus) (four : Four) (u used nops left : ℕ) : Type 0 where
-  pub same : quickOf most d rec v ≡ behind used (used / 10 - nops) 0 (quickOf left d (nowOf rec banks bus four u) (drop used v))
+pub record Going (d : Delays) (rec : Single) (v : List ℕ) (most : ℕ) (banks : Banks) (bus : Bus) (four : Four) (u used nops left : ℕ) : Type 0 where
+  pub same : quickOf most d rec v ≡ goneBehind used (used / 10 - nops) 0 (quickOf left d (nowOf rec banks bus four u) (drop used v))
   pub kept : banks .refpb ≡ rec .share .banks .refpb
   pub stood : standsOf rec ≡ true
   pub ends : EndArgs rec u
@@ -51,7 +51,7 @@ pub record Going (d : Delays) (rec : Record) (v : List ℕ) (most : ℕ) (banks 
   pub few : nops ≤ used / 10
 
 -- ---- its beginning
-module _ (d : Delays) (rec : Record) (bs : List ℕ) where
+module _ (d : Delays) (rec : Single) (bs : List ℕ) where
   may-begin : (f : Front) → goesOn d rec f ≡ true → (standsOf rec && ltb (rec .last .at) (deadlineOf (rec .card) (rec .share .ledger))) ≡ true
   unfolding goesOn
   may-begin f e =
@@ -59,12 +59,12 @@ module _ (d : Delays) (rec : Record) (bs : List ℕ) where
       rw (r .0, lt-ltb (rec .last .at) (deadlineOf (rec .card) (rec .share .ledger)) (lt-trans (r .1 .above) (r .1 .early)))
 
   -- none is taken where the ledger does not stand at the last entry
-  not-begun : (standsOf rec && ltb (rec .last .at) (deadlineOf (rec .card) (rec .share .ledger))) ≡ false → (most : ℕ) → ran rec 0 0 0 ≡ quickOf most d rec bs
+  not-begun : (standsOf rec && ltb (rec .last .at) (deadlineOf (rec .card) (rec .share .ledger))) ≡ false → (most : ℕ) → gone rec 0 0 0 ≡ quickOf most d rec bs
   unfolding quickOf
   not-begun n zero = refl
   not-begun n (suc most) = go (goesOn d rec (frontOf bs)) refl
     where
-      go : (x : Bool) → goesOn d rec (frontOf bs) ≡ x → ran rec 0 0 0 ≡ quickOf (suc most) d rec bs
+      go : (x : Bool) → goesOn d rec (frontOf bs) ≡ x → gone rec 0 0 0 ≡ quickOf (suc most) d rec bs
       go false e = unfold quickOf in rw e
       go true e = not-so (sym n ∙ may-begin (frontOf bs) e)
 
@@ -93,11 +93,11 @@ module _ (d : Delays) (rec : Record) (bs : List ℕ) where
         };
       }
 
-  begins : standsOf rec ≡ true → (most : ℕ) → quickOf most d rec bs ≡ behind 0 0 0 (quickOf most d (nowOf rec (rec .share .banks) (rec .share .bus) (rec .share .four) (rec .last .at)) (drop 0 bs))
+  begins : standsOf rec ≡ true → (most : ℕ) → quickOf most d rec bs ≡ goneBehind 0 0 0 (quickOf most d (nowOf rec (rec .share .banks) (rec .share .bus) (rec .share .four) (rec .last .at)) (drop 0 bs))
   begins e most = rw (begins-there e) (sym (from-start (quickOf most d rec bs)))
 
   module _ (end : ℕ) (es : end ≡ deadlineOf (rec .card) (rec .share .ledger)) (ok : Bool) (os : ok ≡ (standsOf rec && ltb (rec .last .at) end)) (most : ℕ) where
-    pub unbegun : not ok ≡ true → ran rec 0 0 0 ≡ quickOf most d rec bs
+    pub unbegun : not ok ≡ true → gone rec 0 0 0 ≡ quickOf most d rec bs
     unbegun n = not-begun (sym (rw es at os) ∙ not-true ok n) most
 
     pub begun : not ok ≡ false → Going d rec bs most (rec .share .banks) (rec .share .bus) (rec .share .four) (rec .last .at) 0 0 most
@@ -113,10 +113,10 @@ module _ (d : Delays) (rec : Record) (bs : List ℕ) where
         }
 
 -- ---- as many as were asked for
-module _ {d : Delays} {rec : Record} {v : List ℕ} {most : ℕ} {banks : Banks} {bus : Bus} {four : Four} {u used nops left : ℕ}
+module _ {d : Delays} {rec : Single} {v : List ℕ} {most : ℕ} {banks : Banks} {bus : Bus} {four : Four} {u used nops left : ℕ}
     (g : Going d rec v most banks bus four u used nops left) where
-  pub finished : left ≤ 0 → ran (nowOf rec banks bus four u) used (used / 10 - nops) 0 ≡ quickOf most d rec v
+  pub finished : left ≤ 0 → gone (nowOf rec banks bus four u) used (used / 10 - nops) 0 ≡ quickOf most d rec v
   finished h =
       let z : left ≡ 0 = omega arith in
-      let e : quickOf left d (nowOf rec banks bus four u) (drop used v) ≡ ran (nowOf rec banks bus four u) 0 0 0 = rw z (unfold quickOf in refl) in
-      sym (g .same ∙ ap (behind used (used / 10 - nops) 0) e ∙ behind-none (ran (nowOf rec banks bus four u) used (used / 10 - nops) 0))
+      let e : quickOf left d (nowOf rec banks bus four u) (drop used v) ≡ gone (nowOf rec banks bus four u) 0 0 0 = rw z (unfold quickOf in refl) in
+      sym (g .same ∙ ap (goneBehind used (used / 10 - nops) 0) e ∙ behind-none (gone (nowOf rec banks bus four u) used (used / 10 - nops) 0))

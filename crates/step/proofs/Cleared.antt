@@ -17,9 +17,9 @@ use Rattle.rules.specs.Levels.{levelAfter, plain}
 use Rattle.rules.specs.Account.{Beat}
 use Rattle.rules.specs.Clock.{beatOf}
 use Rattle.rules.specs.Folds.{orElse, firstOf}
-use Rattle.rules.specs.Entries.{entry, read, commandOf, recordedAs, moveOf, judgedAs}
-use Rattle.rules.specs.Checks.{unless, named, isWrong, isReserved, isBarred, valueGood, checks}
-use Rattle.rules.specs.Lent.{viewIn, aboveLast, readIn, effectOf, effectIn, ledgerTo, refreshedAt, atLevel, entered, ledgerWith, failingTo, failingOf, stepRefusal}
+use Rattle.rules.specs.Entries.{entry, commandOf, recordedAs, moveOf, judgedAs}
+use Rattle.rules.specs.Checks.{unless, named, isWrong, isClash, isReserved, isBarred, valueGood, checks}
+use Rattle.rules.specs.Lent.{aboveLast, effectOf, ledgerTo, refreshedAt, atLevel, entered, failingTo, failingOf}
 use Rattle.rules.proofs.Tests.{both-true}
 use Rattle.rules.proofs.Waking.{awake-reads}
 use Rattle.card.specs.Values.{cardOf}
@@ -27,9 +27,9 @@ use Rattle.card.specs.declared.Delays.{Delays}
 use Rattle.pins.specs.Places.{bankOn}
 use Rattle.ledger.specs.Values.{ledgerOf, deadlineOf}
 use Rattle.ledger.proofs.Deadlines.{none-here}
-use Rattle.bank.specs.Values.{lastOf, shareOf, lentOf}
-use Rattle.bank.specs.declared.Record.{Record}
-use Rattle.step.specs.Parts.{Prepared}
+use Rattle.bank.specs.Values.{lastOf, shareOf}
+use Rattle.step.specs.declared.single.Single.{Single}
+use Rattle.step.specs.Single.{readBy, effectBy, ledgerBy, viewBy, refusalBy, Ready}
 use Rattle.step.specs.Ready.{waitsOf, laneOf, hotOf, readyBy, standsOf, readyOf}
 use Rattle.step.proofs.Levels.{Names, named-so}
 use Rattle.step.proofs.Standing.{not-so, Stands, stands-so}
@@ -37,12 +37,12 @@ use Rattle.step.proofs.Within.{quiet}
 use Rattle.step.proofs.Quiet.{look, Quiet, nop-quiet, rd-quiet, wr-quiet, pre-quiet, act-quiet}
 
 -- no check fails
-all-pass : (a b c d e f g : Bool) (x y z : Option (ℕ × ℕ)) → a ≡ true → b ≡ true → x ≡ none → c ≡ true → d ≡ true → e ≡ true → f ≡ true → g ≡ true → y ≡ none → z ≡ none
-    → firstOf (unless a 13 ∷ unless b 5 ∷ named 11 x ∷ unless c 6 ∷ unless d 7 ∷ unless e 8 ∷ unless f 16 ∷ unless g 9 ∷ named 10 y ∷ named 11 z ∷ []) ≡ none
+all-pass : (a b c d e f g h : Bool) (x y z : Option (ℕ × ℕ)) → a ≡ true → b ≡ true → x ≡ none → c ≡ true → d ≡ true → e ≡ true → f ≡ true → g ≡ true → h ≡ true → y ≡ none → z ≡ none
+    → firstOf (unless a 13 ∷ unless b 5 ∷ named 11 x ∷ unless c 6 ∷ unless d 24 ∷ unless e 7 ∷ unless f 8 ∷ unless g 16 ∷ unless h 9 ∷ named 10 y ∷ named 11 z ∷ []) ≡ none
 unfolding firstOf orElse unless named
-all-pass a b c d e f g x y z pa pb px pc pd pe pf pg py pz = rw (pa, pb, px, pc, pd, pe, pf, pg, py, pz)
+all-pass a b c d e f g h x y z pa pb px pc pd pe pf pg ph py pz = rw (pa, pb, px, pc, pd, pe, pf, pg, ph, py, pz)
 
-module _ (d : Delays) (rec : Record) (t p : ℕ) where
+module _ (d : Delays) (rec : Single) (t p : ℕ) where
   -- the stamp is above the last entry's, and before the deadline
   pub record Timely : Type 0 where
     pub above : rec .last .at < t
@@ -61,10 +61,10 @@ module _ (d : Delays) (rec : Record) (t p : ℕ) where
 
   -- the entry is taken, and is no counted refresh
   pub record Clears : Type 0 where
-    pub taken : stepRefusal (lentOf rec) (entry t p) ≡ none
-    pub uncounted : effectIn (lentOf rec) (entry t p) .counted ≡ false
+    pub taken : refusalBy rec (entry t p) ≡ none
+    pub uncounted : effectBy rec (entry t p) .counted ≡ false
 
-  module _ (s : Prepared rec d) (stands : Stands rec) (timely : Timely) where
+  module _ (s : Ready rec d) (stands : Stands rec) (timely : Timely) where
     later : rec .share .ledger .at < t
     later = omega (arith, stands .there, timely .above)
 
@@ -80,16 +80,16 @@ module _ (d : Delays) (rec : Record) (t p : ℕ) where
 
     clears : (c : rules.Command) → decode p ≡ good c → isCounted c (rec .share .counter) ≡ false
         → stateGood (λ b. getD (rec .share .banks .opened) b false) (rec .share .counter) c ≡ true → is MRW c ≡ false → Quiet d rec 0 t c → Clears
-    unfolding stepRefusal checks isWrong isReserved isBarred commandOf recordedAs judgedAs moveOf refreshedAt effectIn effectOf levelAfter atLevel ledgerTo entered ledgerWith viewIn lentOf shareOf
+    unfolding refusalBy checks isWrong isClash isReserved isBarred commandOf recordedAs judgedAs moveOf refreshedAt effectBy effectOf levelAfter atLevel ledgerTo entered ledgerBy ledgerOf viewBy shareOf
     clears c e uncounted state value q = record {
       taken =
-          all-pass _ _ _ _ _ _ _ _ _ _ (s .good) rises (account .0)
-          (rw here) (rw here) (rw here state) (rw here) (rw here good-value) (rw (here, ← s .clocks) (quiet (look d rec 0 t) t _ q)) (rw (here, uncounted) (account .1));
+          all-pass _ _ _ _ _ _ _ _ _ _ _ (s .sound) rises (account .0)
+          (rw here) (rw here) (rw here) (rw here state) (rw here) (rw here good-value) (rw (here, ← s .clocks) (quiet (look d rec 0 t) t _ q)) (rw (here, uncounted) (account .1));
       uncounted = rw here uncounted;
     }
       where
-        here : readIn (lentOf rec) (entry t p) ≡ plain (good c)
-        here = unfold readIn read lentOf shareOf ledgerOf cardOf in rw (stands .wakes) (awake-reads (rec .card .sleeps) p c e)
+        here : readBy rec (entry t p) ≡ plain (good c)
+        here = unfold readBy in rw (stands .wakes) (awake-reads (rec .card .sleeps) p c e)
 
         good-value : valueGood (cardOf (rec .card)) c ≡ true
         good-value = unfold valueGood in rw value
@@ -116,7 +116,7 @@ module _ (d : Delays) (rec : Record) (t p : ℕ) where
     go wrongBits e n h = not-so h
     go reserved e n h = not-so h
 
-  pub ready-taken : Prepared rec d → readyOf d rec t p ≡ true → Clears
+  pub ready-taken : Ready rec d → readyOf d rec t p ≡ true → Clears
   ready-taken s h =
       let r = ready-parts h in
       go s (stands-so rec (r .0)) (r .1) (decode p) refl (named-so p _ refl) (r .2)

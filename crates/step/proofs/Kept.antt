@@ -1,27 +1,31 @@
 -- An entry that is taken leaves a record that 13 lets pass again, and that is to the rules their record after it.
-use Prim.Native.Nat.{suc, _+_, _-_, _≤_}
+use Prim.Native.Nat.{ℕ, suc, _+_, _-_, _≤_}
 use mathlib.Core.Path.{_≡_, refl, ap, sym, _∙_}
-use mathlib.Core.Bool.{true}
+use mathlib.Core.Bool.{Bool, true, false, cond}
 use mathlib.Core.Option.{none}
 use native.Mathlib.Omega.{arith}
 use lib.IntN.{ℤ, pos, negsuc, subℕ}
 use borrow.Author.Tests.{leb-true}
 use Rattle.rules.specs.Levels as levels
 use Rattle.rules.specs.Account.{lpddr3}
-use Rattle.rules.specs.Entries.{Entry, read}
+use Rattle.rules.specs.Entries.{Entry, read, whoseOf}
 use Rattle.rules.specs.Lent as lent
 use Rattle.rules.specs.Lent.{readIn, commandIn, moveIn, ledgerWith, owingGood, lentGood, stepRefusal, lentAfter}
 use Rattle.rules.proofs.Tests.{both-true}
 use Rattle.rules.proofs.Biased.{sub-below, sub-from}
+use Rattle.rules.proofs.Filtered.{IsPart}
 use Rattle.rules.proofs.Sound.{sound-ledger, step-passed, ledger-kept, good-kept}
+use Rattle.card.specs.Values.{cardOf}
 use Rattle.pins.specs.Values.{levelOf}
 use Rattle.ledger.specs.Values.{ledgerOf, stored, levelIn, codeOf}
+use Rattle.ledger.proofs.Promises.{code-is}
 use Rattle.bank.specs.declared.Record.{Record}
 use Rattle.bank.specs.Values.{lentOf}
-use Rattle.bank.specs.After.{afterCommand}
+use Rattle.bank.specs.Both.{ledgersAs}
 use Rattle.bank.proofs.Sizes.{Whole}
+use Rattle.bank.proofs.Shares.{first-is, second-is}
 use Rattle.bank.proofs.Changed.{after-is, good-args, recorded-bank, record-after}
-use Rattle.step.specs.Values.{recordWith}
+use Rattle.step.specs.Values.{secondWith, recordWith}
 use Rattle.step.proofs.Arrays.{after-whole}
 
 -- what a run keeps of a record
@@ -57,17 +61,27 @@ ledger-back g e = λ i. record {
 
 -- ---- the record then
 module _ (rec : Record) (e : Entry) (g : Good rec) (n : stepRefusal (lentOf rec) e ≡ none) where
+  there-back : (p : ℕ) → IsPart (lentOf rec .card) p → ledgerOf (codeOf (ledgerWith (lentOf rec) e p)) ≡ ledgerWith (lentOf rec) e p
+  there-back p i = ledger-back _ (sound-ledger (lentOf rec .card) (ledgerWith (lentOf rec) e p) (ledger-kept (lentOf rec) e n p i) .owing)
+
+  second-back : ledgerOf (codeOf (secondWith rec e)) ≡ secondWith rec e
+  unfolding secondWith
+  second-back = go (rec .card .paired) refl
+    where
+      go : (x : Bool) → rec .card .paired ≡ x →
+          (let h = cond x (ledgerWith (lentOf rec) e 1) (ledgerOf (rec .second .ledger)) in ledgerOf (codeOf h) ≡ h)
+      go true m = there-back 1 (second-is (lentOf rec .card) ∙ (unfold lentOf cardOf in m))
+      go false m = ap ledgerOf (code-is (rec .second .ledger))
+
   pub lent-with : lentOf (recordWith rec e) ≡ lentAfter (lentOf rec) e
   unfolding recordWith commandIn moveIn readIn read
   lent-with =
       let l = lentOf rec in
-      let c = commandIn l e in
-      let v = moveIn l e in
-      let there = ledgerWith l e in
-      let args = good-args rec (e .stamp) c (g .passed) (step-passed l e n .above) (recorded-bank _ _ (e .pins)) in
-      let back = ledger-back there (sound-ledger (l .card) there (ledger-kept l e n) .owing) in
-      record-after rec c v (e .stamp) (codeOf there) (g .arrays) args ∙ ap (afterCommand l c v (e .stamp)) back ∙ sym (after-is l e)
+      let gs = ledgersAs (codeOf (ledgerWith l e 0)) (codeOf (secondWith rec e)) in
+      let args = good-args rec e (commandIn l e) (g .passed) (step-passed l e n .above) (recorded-bank _ _ _ (e .pins)) in
+      record-after rec (whoseOf (l .card) e) (commandIn l e) (moveIn l e) (e .stamp) gs (g .arrays) args
+      ∙ sym (after-is rec e gs (there-back 0 (first-is (l .card))) (unfold secondWith in second-back))
 
   pub good-with : Good (recordWith rec e)
   unfolding recordWith
-  good-with = record { passed = rw lent-with (good-kept (lentOf rec) e n); arrays = after-whole rec _ _ _ _ (g .arrays) }
+  good-with = record { passed = rw lent-with (good-kept (lentOf rec) e n); arrays = after-whole rec _ _ _ _ _ (g .arrays) }

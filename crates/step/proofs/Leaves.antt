@@ -1,12 +1,18 @@
 -- What a step tells and leaves, from its parts.
+use Prim.Native.Nat.{ℕ}
 use mathlib.Core.Path.{_≡_, refl, ap, sym, _∙_}
-use mathlib.Core.Bool.{true, false}
+use mathlib.Core.Bool.{Bool, true, false}
 use mathlib.Core.Option.{Option, none, some}
 use Rattle.rules.specs.Units.{delaysOf}
+use Rattle.rules.specs.Commands.{Command}
+use Rattle.rules.specs.Whose.{Whose, isOf}
+use Rattle.rules.specs.Levels.{Move}
 use Rattle.rules.specs.Folds.{orElse, firstOf}
-use Rattle.rules.specs.Entries.{Entry, read}
+use Rattle.rules.specs.Entries.{Entry, read, whoseOf, partIn}
 use Rattle.rules.specs.Checks.{Refusal, unless}
-use Rattle.rules.specs.Lent.{readIn, commandIn, moveIn, effectIn, ledgerWith, lentGood, stepRefusal}
+use Rattle.rules.specs.Lent as lent
+use Rattle.rules.specs.Lent.{ownIn, readIn, commandIn, moveIn, effectIn, effectOn, ledgerWith, lentGood, stepRefusal, lentAfter}
+use Rattle.rules.proofs.Filtered.{judging-part}
 use Rattle.rules.proofs.Sound.{sound, step-passed}
 use Rattle.card.specs.Values.{cardOf, clocksOf, shortened}
 use Rattle.card.specs.declared.Delays as code
@@ -14,61 +20,93 @@ use Rattle.card.proofs.Fits.{fits}
 use Rattle.ledger.specs.declared.Ledger.{Ledger}
 use Rattle.ledger.specs.Values.{ledgerOf, codeOf, unlessRefused}
 use Rattle.ledger.proofs.Promises.{code-is}
+use Rattle.bank.specs.declared.Ledgers.{Ledgers}
+use Rattle.bank.specs.declared.Share.{Share}
 use Rattle.bank.specs.declared.Record.{Record}
-use Rattle.bank.specs.Values.{lentOf}
-use Rattle.bank.specs.After.{afterCommand, shareAfter, recordAfter}
+use Rattle.bank.specs.Values.{shareOf, shareIn, lentOf}
+use Rattle.bank.specs.After.{shareAfter, shareTaken, recordAfter, Changed}
+use Rattle.bank.specs.Both.{ledgersIn, ledgersAs, effectFor}
 use Rattle.bank.proofs.Changed.{after-is, good-args, recorded-bank}
 use Rattle.step.specs.declared.Answer.the-variants.{BadRecord}
 use Rattle.step.specs.declared.Stepped.{Stepped}
 use Rattle.step.specs.declared.offering.Ruling.{Ruling}
-use Rattle.step.specs.Values.{refusalOf, recordWith, Left}
-use Rattle.step.specs.Parts.{Prepared, ledgerAs, Ruled, Settled}
+use Rattle.step.specs.Values.{refusalOf, secondWith, recordBy, recordWith, Left}
+use Rattle.step.specs.Parts.{Prepared, effectAs, ledgerAs, Ruled, Settled}
 use Rattle.step.proofs.Split.{step-is}
 
--- ---- what is ruled of an entry, at a record that 13 lets pass
-module _ (rec : Record) (e : Entry) (good : lentGood (lentOf rec) ≡ true) (w : Ruling)
-    (ruled : Ruled (delaysOf (lentOf rec .card)) (lentOf rec) (readIn (lentOf rec) e) (e .stamp) w) where
-  pub ruled-told : refusalOf (w .answer) ≡ stepRefusal (lentOf rec) e
-  ruled-told = ruled .told ∙ sym (step-is (lentOf rec) e good)
+-- both ledgers, by what they are to the rules
+pub ledgers-coded : (x : Ledgers) (g h : lent.Ledger) → ledgerOf (x .first) ≡ g → ledgerOf (x .second) ≡ h → x ≡ ledgersAs (codeOf g) (codeOf h)
+ledgers-coded x g h a b = λ i. ledgersAs ((sym (code-is (x .first)) ∙ ap codeOf a) i) ((sym (code-is (x .second)) ∙ ap codeOf b) i)
 
-  module _ (n : refusalOf (w .answer) ≡ none) where
-    ruled-ledger : ledgerOf (w .ledger) ≡ ledgerWith (lentOf rec) e
-    unfolding ledgerAs ledgerWith effectIn
-    ruled-ledger = ruled .ledger n
+-- ---- what is ruled of an entry, at a record that 13 lets pass
+module _ (rec : Record) (e : Entry) (good : lentGood (lentOf rec) ≡ true) (y : Ruling)
+    (ruled : Ruled (delaysOf (lentOf rec .card)) (lentOf rec) (whoseOf (lentOf rec .card) e) (readIn (lentOf rec) e) (e .stamp) y) where
+  pub ruled-told : refusalOf (y .answer) ≡ stepRefusal (lentOf rec) e
+  unfolding partIn
+  ruled-told = ruled .told (judging-part (lentOf rec .card) e) ∙ sym (step-is (lentOf rec) e good)
+
+  module _ (n : refusalOf (y .answer) ≡ none) where
+    ruled-first : ledgerOf (y .ledgers .first) ≡ ledgerWith (lentOf rec) e 0
+    unfolding ledgerAs ledgerWith effectAs effectFor effectOn effectIn ownIn partIn
+    ruled-first = ruled .first n
+
+    ruled-second : ledgerOf (y .ledgers .second) ≡ secondWith rec e
+    unfolding secondWith ledgerAs ledgerWith effectAs effectFor effectOn effectIn ownIn partIn lentOf shareIn shareOf cardOf
+    ruled-second = ruled .second n
 
     -- the record then, to the bit
-    pub ruled-record : (s : Record) → s ≡ recordAfter rec (commandIn (lentOf rec) e) (moveIn (lentOf rec) e) (e .stamp) (w .ledger) → s ≡ recordWith rec e
+    pub ruled-record : (s : Record) → s ≡ recordBy rec e (y .ledgers) → s ≡ recordWith rec e
     unfolding recordWith
-    ruled-record s h = h ∙ ap (recordAfter rec (commandIn (lentOf rec) e) (moveIn (lentOf rec) e) (e .stamp)) (sym (code-is (w .ledger)) ∙ ap codeOf ruled-ledger)
+    ruled-record s h = h ∙ ap (recordBy rec e) (ledgers-coded (y .ledgers) _ _ ruled-first ruled-second)
+
+    -- and to the rules
+    pub ruled-lent : (s : Record) → Changed rec (e .stamp) (whoseOf (lentOf rec .card) e) (commandIn (lentOf rec) e) (moveIn (lentOf rec) e) (y .ledgers) s → lentOf s ≡ lentAfter (lentOf rec) e
+    unfolding commandIn readIn read secondWith
+    ruled-lent s h =
+        let above = step-passed (lentOf rec) e (sym ruled-told ∙ n) .above in
+        h .lent (good-args rec e (commandIn (lentOf rec) e) good above (recorded-bank _ _ _ (e .pins))) ∙ sym (after-is rec e (y .ledgers) ruled-first ruled-second)
+
+-- ---- the ledgers of the record then
+taken-ledger : (own : Bool) (s : Share) (c : Command) (v : Move) (t : ℕ) (g : Ledger) → shareTaken own s c v t g .ledger ≡ g
+unfolding shareTaken
+taken-ledger true s c v t g = unfold shareAfter in refl
+taken-ledger false s c v t g = refl
+
+ledgers-after : (rec : Record) (w : Whose) (c : Command) (v : Move) (t : ℕ) (g : Ledgers) → ledgersIn (recordAfter rec w c v t g) ≡ g
+unfolding ledgersIn recordAfter
+ledgers-after rec w c v t g = λ i. ledgersAs (taken-ledger (isOf 0 w) (rec .first) c v t (g .first) i) (taken-ledger (isOf 1 w) (rec .second) c v t (g .second) i)
 
 module _ (rec : Record) (e : Entry) (r : Stepped) where
   left-kept : (x : Refusal) → refusalOf (r .answer) ≡ some x → r .rec ≡ rec → Left (some x) rec e r
   unfolding unlessRefused
-  left-kept x t k = record { told = t; is = k; ledger = ap (λ (s : Record). ledgerOf (s .share .ledger)) k; lent = λ good. ap lentOf k }
+  left-kept x t k = record {
+    told = t;
+    is = k;
+    first = ap (λ (s : Record). ledgerOf (s .first .ledger)) k;
+    second = ap (λ (s : Record). ledgerOf (s .second .ledger)) k;
+    lent = λ good. ap lentOf k;
+  }
 
-  module _ (good : lentGood (lentOf rec) ≡ true) (w : Ruling)
-      (ruled : Ruled (delaysOf (lentOf rec .card)) (lentOf rec) (readIn (lentOf rec) e) (e .stamp) w)
-      (settled : Settled rec (e .stamp) (readIn (lentOf rec) e) w r) where
-    left-changed : refusalOf (w .answer) ≡ none → Left none rec e r
-    unfolding unlessRefused recordAfter shareAfter commandIn moveIn readIn read
+  module _ (good : lentGood (lentOf rec) ≡ true) (y : Ruling)
+      (ruled : Ruled (delaysOf (lentOf rec .card)) (lentOf rec) (whoseOf (lentOf rec .card) e) (readIn (lentOf rec) e) (e .stamp) y)
+      (settled : Settled rec (e .stamp) (whoseOf (lentOf rec .card) e) (readIn (lentOf rec) e) y r) where
+    left-changed : refusalOf (y .answer) ≡ none → Left none rec e r
+    unfolding unlessRefused commandIn moveIn ledgersIn
     left-changed n =
-        let c = commandIn (lentOf rec) e in
-        let v = moveIn (lentOf rec) e in
         let h = settled .changed n in
-        let g : r .rec .share .ledger ≡ w .ledger = ap (λ (s : Record). s .share .ledger) (h .is) in
-        let there = ruled-ledger rec e good w ruled n in
-        let above = step-passed (lentOf rec) e (sym (ruled-told rec e good w ruled) ∙ n) .above in
+        let g : ledgersIn (r .rec) ≡ y .ledgers = ap ledgersIn (h .is) ∙ ledgers-after rec _ _ _ (e .stamp) (y .ledgers) in
         record {
           told = settled .told ∙ n;
-          is = h .is ∙ ap (λ (x : Ledger). recordAfter rec c v (e .stamp) x) (sym g);
-          ledger = ap ledgerOf g ∙ there;
-          lent = λ good. h .lent (good-args rec (e .stamp) c good above (recorded-bank _ _ (e .pins))) ∙ ap (afterCommand (lentOf rec) c v (e .stamp)) there ∙ sym (after-is (lentOf rec) e);
+          is = h .is ∙ ap (recordBy rec e) (sym g);
+          first = ap (λ (z : Ledgers). ledgerOf (z .first)) g ∙ ruled-first rec e good y ruled n;
+          second = ap (λ (z : Ledgers). ledgerOf (z .second)) g ∙ ruled-second rec e good y ruled n;
+          lent = λ good. ruled-lent rec e good y ruled n (r .rec) h;
         }
 
     pub left-so : Left (stepRefusal (lentOf rec) e) rec e r
-    left-so = go (stepRefusal (lentOf rec) e) (ruled-told rec e good w ruled)
+    left-so = go (stepRefusal (lentOf rec) e) (ruled-told rec e good y ruled)
       where
-        go : (o : Option Refusal) → refusalOf (w .answer) ≡ o → Left o rec e r
+        go : (o : Option Refusal) → refusalOf (y .answer) ≡ o → Left o rec e r
         go none t = left-changed t
         go (some x) t = left-kept x (settled .told ∙ t) (settled .kept x t)
 

@@ -10,25 +10,24 @@ use Rattle.rules.specs.Levels.{Level, awake, stays, isFall, risesFrom, levelAft
 use Rattle.rules.specs.Account.{Beat}
 use Rattle.rules.specs.Clock.{beatOf}
 use Rattle.rules.specs.Pins.{Decoded, good, wrongBits, reserved, decode}
-use Rattle.rules.specs.Entries.{entry, read, commandOf, recordedAs, moveOf}
+use Rattle.rules.specs.Entries.{entry, commandOf, recordedAs, moveOf}
 use Rattle.rules.specs.Lent as lent
-use Rattle.rules.specs.Lent.{readIn, commandIn, moveIn, effectOf, effectIn, ledgerTo, refreshedAt, atLevel, entered, ledgerWith}
+use Rattle.rules.specs.Lent.{effectOf, ledgerTo, refreshedAt, atLevel, entered}
 use Rattle.rules.proofs.Ledgers.{moved-twice}
 use Rattle.card.specs.Values.{cardOf}
 use Rattle.pins.specs.Values.{levelOf}
 use Rattle.pins.specs.Places.{bankOn, apOn}
 use Rattle.ledger.specs.Values.{ledgerOf, levelIn, codeOf}
 use Rattle.ledger.specs.declared.Ledger.{Ledger}
-use Rattle.bank.specs.Values.{shareOf, lentOf}
 use Rattle.pins.specs.Counter.{counterOn}
-use Rattle.bank.specs.After.{onceAt, onceIf, notedAt, notedIf, putEach, eachIf, putNoted, notedEachIf, pushedOn, fourAfter, latestAfter, movesAfter, busAfter, shuts, openedAfter, stampedAfter, banksAfter, shareAfter, recordAfter}
+use Rattle.bank.specs.After.{onceAt, onceIf, notedAt, notedIf, putEach, eachIf, putNoted, notedEachIf, pushedOn, fourAfter, latestAfter, movesAfter, busAfter, shuts, openedAfter, stampedAfter, banksAfter, shareAfter}
 use Rattle.bank.specs.declared.Banks.{Banks}
 use Rattle.bank.specs.declared.Bus.{Bus}
 use Rattle.bank.specs.declared.Four.{Four}
-use Rattle.bank.specs.declared.Record.{Record}
-use Rattle.step.specs.Values.{recordWith}
+use Rattle.bank.specs.declared.Share.{Share}
+use Rattle.step.specs.declared.single.Single.{Single}
+use Rattle.step.specs.Single.{readBy, effectBy, ledgerBy, singleWith}
 use Rattle.step.specs.Ready.{Hot, Nop, Act, Rd, Wr, Pre, Cold, hotOf}
-use Rattle.step.specs.Runs.{commandsBy}
 use Rattle.step.specs.Quick.{hotCount, nowOf, EndArgs}
 use Rattle.step.proofs.Levels.{Names, named-so, awake-hot}
 use Rattle.step.proofs.Standing.{Stands, moved-back}
@@ -124,16 +123,16 @@ fourThen Wr t x = x
 fourThen Pre t x = x
 fourThen Cold t x = x
 
-module _ (rec : Record) (banks : Banks) (bus : Bus) (four : Four) (u t p : ℕ) where
+module _ (rec : Single) (banks : Banks) (bus : Bus) (four : Four) (u t p : ℕ) where
   abbrev beat : Beat
   beat = beatOf (cardOf (rec .card))
 
   -- the record so far
-  abbrev now : Record
+  abbrev now : Single
   now = nowOf rec banks bus four u
 
   -- with the entry
-  abbrev then : Hot → Ledger → Record
+  abbrev then : Hot → Ledger → Single
   then h g = record {
     card = rec .card;
     last = onceAt t;
@@ -152,8 +151,8 @@ module _ (rec : Record) (banks : Banks) (bus : Bus) (four : Four) (u t p : ℕ) 
   abbrev NotCold : Hot → Type 0
   NotCold h = h ≡ Cold → ⊥
 
-  after-so : (x : Decoded) → NotCold (hotOf x) → Names p x → (g : Ledger) → recordAfter now (commandOf x) stays t g ≡ then (hotOf x) g
-  unfolding hotOf Names commandOf recordAfter shareAfter registerAfter counterOn risesFrom latestAfter movesAfter isFall busAfter fourAfter banksAfter stampedAfter openedAfter shuts onceIf notedIf eachIf notedEachIf is code kindOf carries bare bankOf apOf bankAt
+  after-so : (x : Decoded) → NotCold (hotOf x) → Names p x → (g : Ledger) → shareAfter (now .share) (commandOf x) stays t g ≡ then (hotOf x) g .share
+  unfolding hotOf Names commandOf shareAfter registerAfter counterOn risesFrom latestAfter movesAfter isFall busAfter fourAfter banksAfter stampedAfter openedAfter shuts onceIf notedIf eachIf notedEachIf is code kindOf carries bare bankOf apOf bankAt
   after-so (good rules.nop) h n g = refl
   after-so (good (rules.mrw ma op)) h n g = absurd (h refl)
   after-so (good (rules.mrr ma)) h n g = absurd (h refl)
@@ -195,15 +194,18 @@ module _ (rec : Record) (banks : Banks) (bus : Bus) (four : Four) (u t p : ℕ) 
     unfolding codeOf ledgerTo ledgerOf
     wakes-now = ap (λ (l : Level). levelOf (levelIn l)) (stands .wakes) ∙ (unfold levelIn levelOf in refl)
 
-    reads : NotCold (hotOf (decode p)) → readIn (lentOf now) (entry t p) ≡ plain (decode p)
-    unfolding readIn read lentOf shareOf ledgerOf cardOf
+    reads : NotCold (hotOf (decode p)) → readBy now (entry t p) ≡ plain (decode p)
+    unfolding readBy
     reads h = rw wakes-now (awake-hot (rec .card .sleeps) p h)
 
-    pub taken-so : NotCold (hotOf (decode p)) → (recordWith now (entry t p) ≡ nowOf rec (banksThen (hotOf (decode p)) (bankOn p) (apOn p) t (rec .share .mr2) banks)
-        (busThen (hotOf (decode p)) t (rec .share .mr2) bus) (fourThen (hotOf (decode p)) t four) t) × (commandsBy now (entry t p) ≡ hotCount (hotOf (decode p)))
-    unfolding recordWith commandsBy commandIn moveIn effectIn effectOf recordedAs moveOf levelAfter ledgerWith entered refreshedAt atLevel ledgerTo lentOf shareOf
+    pub taken-so : NotCold (hotOf (decode p)) → (singleWith now (entry t p) ≡ nowOf rec (banksThen (hotOf (decode p)) (bankOn p) (apOn p) t (rec .share .mr2) banks)
+        (busThen (hotOf (decode p)) t (rec .share .mr2) bus) (fourThen (hotOf (decode p)) t four) t) × (cond (is NOP (recordedAs (readBy now (entry t p)))) 0 1 ≡ hotCount (hotOf (decode p)))
+    unfolding singleWith effectBy effectOf recordedAs moveOf levelAfter ledgerBy ledgerOf entered refreshedAt atLevel ledgerTo
     taken-so h =
         let q = plain-so (decode p) h in (
-          rw (reads h, q .0) (after-so (decode p) h (named-so p _ refl) _ ∙ ap (then (hotOf (decode p))) ledger-so),
+          rw (reads h, q .0) (ap onward (after-so (decode p) h (named-so p _ refl) _) ∙ ap (then (hotOf (decode p))) ledger-so),
           rw (reads h) (q .1),
         )
+      where
+        onward : Share → Single
+        onward x = record { card = rec .card; last = onceAt t; share = x }

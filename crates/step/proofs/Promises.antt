@@ -5,18 +5,16 @@ use mathlib.Core.Option.{Option, none, some}
 use lib.Dec.{eqb}
 use Rattle.rules.specs.Entries.{Entry}
 use Rattle.rules.specs.Checks.{Refusal, refusal}
-use Rattle.rules.specs.Lent as lent
 use Rattle.rules.proofs.Determined.{tells, Promise, Plainly, Determined, determined, fact-of}
-use Rattle.ledger.specs.declared.Ledger.{Ledger}
 use Rattle.ledger.specs.Values as paid
 use Rattle.ledger.proofs.Promises.{code-is}
+use Rattle.bank.specs.declared.Ledgers.{Ledgers}
 use Rattle.bank.specs.declared.Record.{Record}
-use Rattle.bank.specs.Values.{lentOf}
-use Rattle.bank.specs.After.{recordAfter}
+use Rattle.bank.specs.Both.{ledgersIn, ledgersAs}
 use Rattle.step.specs.declared.Answer.{Answer}
-use Rattle.step.specs.declared.Answer.the-variants.{Taken, BadRecord, Early, Overdue, WrongBits, Reserved, State, Barred, Value, TooSoon}
+use Rattle.step.specs.declared.Answer.the-variants.{Taken, BadRecord, Early, Overdue, WrongBits, Clash, Reserved, State, Barred, Value, TooSoon}
 use Rattle.step.specs.declared.Stepped.{Stepped}
-use Rattle.step.specs.Values.{refusalOf, Left}
+use Rattle.step.specs.Values.{refusalOf, recordBy, Left}
 use Rattle.step.proofs.account.as_told as as-told
 use Rattle.step.proofs.offering.step as step
 use Rattle.step.proofs.turns.run as run
@@ -28,10 +26,11 @@ numbered x =
     cond (eqb (x .number) 5) Early (
     cond (eqb (x .number) 11) (Overdue (x .rule) (x .cycle)) (
     cond (eqb (x .number) 6) WrongBits (
+    cond (eqb (x .number) 24) Clash (
     cond (eqb (x .number) 7) Reserved (
     cond (eqb (x .number) 8) State (
     cond (eqb (x .number) 16) Barred (
-    cond (eqb (x .number) 9) Value (TooSoon (x .rule) (x .cycle)))))))))
+    cond (eqb (x .number) 9) Value (TooSoon (x .rule) (x .cycle))))))))))
 
 abbrev answerOf : Option Refusal → Answer
 answerOf none = Taken
@@ -44,6 +43,7 @@ answer-is BadRecord = refl
 answer-is Early = refl
 answer-is (Overdue q t) = refl
 answer-is WrongBits = refl
+answer-is Clash = refl
 answer-is Reserved = refl
 answer-is State = refl
 answer-is Barred = refl
@@ -56,10 +56,13 @@ one-answer = tells refusalOf answerOf answer-is
 
 -- two that are told and left so are one
 pub one-stepped : (o : Option Refusal) (rec : Record) (e : Entry) (r s : Stepped) → Left o rec e r → Left o rec e s → r ≡ s
+unfolding ledgersIn
 one-stepped o rec e r s p q =
     let a : r .answer ≡ s .answer = one-answer (r .answer) (s .answer) (p .told) (q .told) in
-    let g : r .rec .share .ledger ≡ s .rec .share .ledger = tells paid.ledgerOf paid.codeOf code-is _ _ (p .ledger) (q .ledger) in
-    let after : Ledger → Record = λ x. paid.unlessRefused o rec (recordAfter rec (lent.commandIn (lentOf rec) e) (lent.moveIn (lentOf rec) e) (e .stamp) x) in
+    let first : r .rec .first .ledger ≡ s .rec .first .ledger = tells paid.ledgerOf paid.codeOf code-is _ _ (p .first) (q .first) in
+    let second : r .rec .second .ledger ≡ s .rec .second .ledger = tells paid.ledgerOf paid.codeOf code-is _ _ (p .second) (q .second) in
+    let g : ledgersIn (r .rec) ≡ ledgersIn (s .rec) = (λ i. ledgersAs (first i) (second i)) in
+    let after : Ledgers → Record = λ z. paid.unlessRefused o rec (recordBy rec e z) in
     let x : r .rec ≡ s .rec = p .is ∙ ap after g ∙ sym (q .is) in
     λ i. record { rec = x i; answer = a i }
 

@@ -10,20 +10,21 @@ use Rattle.rules.specs.Commands.{code, bare, carries, kindOf, bankOf, is, banks
 use Rattle.rules.specs.Past.{bankAt}
 use Rattle.rules.specs.Levels.{stays, isFall, isRise, risesFrom}
 use Rattle.rules.specs.Folds.{permitted, permittedBy, bound}
-use Rattle.rules.specs.Delays.{Lookup, lastREFpb-to, lastACT-to, means, latestOf, laggingOf, fourthOf, latestIf, latestMove, idleUse, precharged, without, from, lagging, rule, delayRules}
+use Rattle.rules.specs.Delays.{mine, turned, Lookup, lookBoth, across, lastREFpb-to, lastACT-to, means, latestOf, laggingOf, fourthOf, latestIf, latestMove, idleUse, precharged, without, from, lagging, rule, delayRules}
 use Rattle.rules.specs.Lent.{lookIn}
 use Rattle.rules.proofs.Tests.{_&_}
 use Rattle.card.specs.Values.{clocksOf}
 use Rattle.card.specs.declared.Delays.{Delays}
-use Rattle.bank.specs.Values.{once, noted, each, notedEach, preOf, preaOf, asked, outweighed, shareOf, lentOf}
-use Rattle.bank.specs.declared.Record.{Record}
+use Rattle.bank.specs.Values.{once, noted, each, notedEach, preOf, preaOf, asked, outweighed, shareOf}
 use Rattle.bounds.proofs.Spanned.{joined}
+use Rattle.step.specs.declared.single.Single.{Single}
+use Rattle.step.specs.Single.{viewBy}
 use Rattle.step.specs.Ready.{topOf, wholeOf, waitsOf, laneOf, rdCycle, wrCycle, preCycle, idleCycle, actCycle}
-use Rattle.step.proofs.Within.{two, four-parts, silent, alone, both, kept-within, once-within, unless-within, fourth-within, others-within, about, eight-within, after-wr, after-two, after-turn}
+use Rattle.step.proofs.Within.{two, four-parts, silent, alone, both, none-within, kept-within, once-within, unless-within, fourth-within, others-within, about, eight-within, after-wr, after-two, after-turn}
 
-module _ (d : Delays) (rec : Record) (b t : ℕ) where
+module _ (d : Delays) (rec : Single) (b t : ℕ) where
   abbrev pub look : Lookup
-  look = lookIn (lentOf rec .share .history)
+  look = viewBy rec .look
 
   -- no rule is broken
   abbrev pub Quiet : rules.Command → Type 0
@@ -39,13 +40,13 @@ module _ (d : Delays) (rec : Record) (b t : ℕ) where
   whole-parts h = (omega arith, omega arith, omega arith, omega arith, omega arith)
 
   pub nop-quiet : Quiet rules.nop
-  unfolding Every delayRules rule bound from lagging when is code kindOf carries bare idleUse precharged isFall isRise risesFrom permittedBy
+  unfolding Every delayRules rule bound from lagging across turned when is code kindOf carries bare idleUse precharged isFall isRise risesFrom permittedBy
   nop-quiet =
       silent & silent & silent & silent & silent & silent & silent & silent & silent & silent & silent &
-      silent & silent & silent & silent & silent & silent & silent & silent & silent & silent & silent & tt
+      silent & silent & silent & silent & silent & silent & silent & silent & silent & silent & silent & silent & silent & silent & tt
 
   pub rd-quiet : (k : ℕ) (a : Bool) → rdCycle (laneOf rec b) (waitsOf d rec) d (rec .share .bus) ≤ t → Quiet (rules.rd b k a)
-  unfolding Every delayRules rule bound from lagging when is code kindOf carries bare bankAt bankOf idleUse precharged isFall isRise risesFrom permittedBy lookIn lentOf shareOf asked once noted each means latestOf latestMove laggingOf clocksOf
+  unfolding Every delayRules rule bound from lagging across turned when is code kindOf carries bare bankAt bankOf idleUse precharged isFall isRise risesFrom permittedBy viewBy lookBoth lookIn shareOf asked once noted each means latestOf latestMove laggingOf clocksOf
   rd-quiet k a h =
       let p = four-parts _ _ _ _ t h in
       let w = whole-parts (p .0) in
@@ -59,10 +60,11 @@ module _ (d : Delays) (rec : Record) (b t : ℕ) where
       silent &
       alone (kept-within _ t (rec .share .bus .wr .seen) (rec .share .bus .wr .at) (rec .share .bus .wr .mr2) (after-wr _ _ (rec .share .bus .wr .mr2) (rec .share .mr2) t (p .3))) &
       silent & silent & silent & silent &
-      silent & alone (once-within _ t (rec .share .moves .«power_exit») (w .3)) & silent & alone (once-within _ t (rec .share .moves .«self_exit») (w .4)) & tt
+      silent & alone (once-within _ t (rec .share .moves .«power_exit») (w .3)) & silent & alone (once-within _ t (rec .share .moves .«self_exit») (w .4)) &
+      alone (none-within _ t) & silent & alone (none-within _ t) & tt
 
   pub wr-quiet : (k : ℕ) (a : Bool) → wrCycle (laneOf rec b) (waitsOf d rec) d (rec .share .bus) ≤ t → Quiet (rules.wr b k a)
-  unfolding Every delayRules rule bound from lagging when is code kindOf carries bare bankAt bankOf idleUse precharged isFall isRise risesFrom permittedBy lookIn lentOf shareOf asked once noted each means latestOf latestMove laggingOf clocksOf
+  unfolding Every delayRules rule bound from lagging across turned when is code kindOf carries bare bankAt bankOf idleUse precharged isFall isRise risesFrom permittedBy viewBy lookBoth lookIn shareOf asked once noted each means latestOf latestMove laggingOf clocksOf
   wr-quiet k a h =
       let p = four-parts _ _ _ _ t h in
       let w = whole-parts (p .0) in
@@ -75,10 +77,11 @@ module _ (d : Delays) (rec : Record) (b t : ℕ) where
       alone (kept-within _ t (rec .share .bus .wr .seen) (rec .share .bus .wr .at) (rec .share .bus .wr .mr2) (p .2)) &
       alone (kept-within _ t (rec .share .bus .turn .seen) (rec .share .bus .turn .at) (rec .share .bus .turn .mr2) (after-turn _ _ (rec .share .bus .turn .mr2) (rec .share .mr2) t (p .3))) &
       silent & silent & silent & silent & silent &
-      silent & alone (once-within _ t (rec .share .moves .«power_exit») (w .3)) & silent & alone (once-within _ t (rec .share .moves .«self_exit») (w .4)) & tt
+      silent & alone (once-within _ t (rec .share .moves .«power_exit») (w .3)) & silent & alone (once-within _ t (rec .share .moves .«self_exit») (w .4)) &
+      alone (none-within _ t) & alone (none-within _ t) & silent & tt
 
   pub pre-quiet : preCycle (laneOf rec b) (waitsOf d rec) d ≤ t → Quiet (rules.pre b)
-  unfolding Every delayRules rule bound from lagging when is code kindOf carries bare bankAt bankOf idleUse precharged isFall isRise risesFrom permittedBy lookIn lentOf shareOf asked once each notedEach means latestOf latestMove laggingOf clocksOf
+  unfolding Every delayRules rule bound from lagging across turned when is code kindOf carries bare bankAt bankOf idleUse precharged isFall isRise risesFrom permittedBy viewBy lookBoth lookIn shareOf asked once each notedEach means latestOf latestMove laggingOf clocksOf
   pre-quiet h =
       let o = two _ _ t h in
       let p = four-parts _ _ _ _ t (o .1) in
@@ -95,11 +98,12 @@ module _ (d : Delays) (rec : Record) (b t : ℕ) where
       alone (kept-within _ t (getD (rec .share .banks .wr .seen) b false) (getD (rec .share .banks .wr .at) b 0) (getD (rec .share .banks .wr .mr2) b 0)
       (after-wr _ _ (getD (rec .share .banks .wr .mr2) b 0) (rec .share .mr2) t (p .3))) &
       silent &
-      silent & alone (once-within _ t (rec .share .moves .«power_exit») (w .3)) & silent & alone (once-within _ t (rec .share .moves .«self_exit») (w .4)) & tt
+      silent & alone (once-within _ t (rec .share .moves .«power_exit») (w .3)) & silent & alone (once-within _ t (rec .share .moves .«self_exit») (w .4)) &
+      silent & silent & silent & tt
 
   act-parts : (row : ℕ) → waitsOf d rec .idle ≤ t → idleCycle (laneOf rec b) (waitsOf d rec) d ≤ t → topOf (rec .share .banks .act .at) + d .trrd ≤ t
       → getD (rec .share .four .at) 3 0 + d .tfaw ≤ t → Quiet (rules.act b row)
-  unfolding Every delayRules rule bound from lagging when is code kindOf carries bare bankAt bankOf idleUse precharged isFall isRise risesFrom permittedBy lookIn lentOf shareOf asked once each notedEach preOf preaOf means latestOf latestMove laggingOf latestIf fourthOf clocksOf
+  unfolding Every delayRules rule bound from lagging across turned when is code kindOf carries bare bankAt bankOf idleUse precharged isFall isRise risesFrom permittedBy viewBy lookBoth lookIn shareOf asked once each notedEach preOf preaOf means latestOf latestMove laggingOf latestIf fourthOf clocksOf
   act-parts row hi hl ht hf =
       let o = two _ _ t hi in
       let w = whole-parts (o .0) in
@@ -123,7 +127,8 @@ module _ (d : Delays) (rec : Record) (b t : ℕ) where
       silent &
       alone (kept-within _ t (getD (rec .share .banks .wra .seen) b false) (getD (rec .share .banks .wra .at) b 0) (getD (rec .share .banks .wra .mr2) b 0)
       (after-two _ _ _ (getD (rec .share .banks .wra .mr2) b 0) (rec .share .mr2) t (l .1))) &
-      silent & alone (once-within _ t (rec .share .moves .«power_exit») (w .3)) & silent & alone (once-within _ t (rec .share .moves .«self_exit») (w .4)) & tt
+      silent & alone (once-within _ t (rec .share .moves .«power_exit») (w .3)) & silent & alone (once-within _ t (rec .share .moves .«self_exit») (w .4)) &
+      silent & silent & silent & tt
     where
       others : topOf (rec .share .banks .refpb .at) + d .trrd ≤ t → topOf (rec .share .banks .act .at) + d .trrd ≤ t
           → permittedBy look (from (without b banks) (d .trrd) lastACT-to ++ from (without b banks) (d .trrd) lastREFpb-to) ≤ t
@@ -131,11 +136,11 @@ module _ (d : Delays) (rec : Record) (b t : ℕ) where
           rw (joined look (from (without b banks) (d .trrd) lastACT-to) (from (without b banks) (d .trrd) lastREFpb-to))
           (both (others-within look lastACT-to (d .trrd) b t banks (acts y)) (others-within look lastREFpb-to (d .trrd) b t banks (refs x)))
         where
-          acts : topOf (rec .share .banks .act .at) + d .trrd ≤ t → Every (λ k. permitted (about lastACT-to (d .trrd) k) (look (record { ask = lastACT-to; bank = k })) ≤ t) banks
-          acts h = unfold lookIn lentOf shareOf asked each means latestOf latestMove in eight-within lastACT-to (rec .share .banks .act .seen) (rec .share .banks .act .at) (d .trrd) t h
+          acts : topOf (rec .share .banks .act .at) + d .trrd ≤ t → Every (λ k. permitted (about lastACT-to (d .trrd) k) (look (mine (record { ask = lastACT-to; bank = k }))) ≤ t) banks
+          acts h = unfold viewBy lookBoth lookIn shareOf asked each means latestOf latestMove in eight-within lastACT-to (rec .share .banks .act .seen) (rec .share .banks .act .at) (d .trrd) t h
 
-          refs : topOf (rec .share .banks .refpb .at) + d .trrd ≤ t → Every (λ k. permitted (about lastREFpb-to (d .trrd) k) (look (record { ask = lastREFpb-to; bank = k })) ≤ t) banks
-          refs h = unfold lookIn lentOf shareOf asked each means latestOf latestMove in eight-within lastREFpb-to (rec .share .banks .refpb .seen) (rec .share .banks .refpb .at) (d .trrd) t h
+          refs : topOf (rec .share .banks .refpb .at) + d .trrd ≤ t → Every (λ k. permitted (about lastREFpb-to (d .trrd) k) (look (mine (record { ask = lastREFpb-to; bank = k }))) ≤ t) banks
+          refs h = unfold viewBy lookBoth lookIn shareOf asked each means latestOf latestMove in eight-within lastREFpb-to (rec .share .banks .refpb .seen) (rec .share .banks .refpb .at) (d .trrd) t h
 
   pub act-quiet : (row : ℕ) → actCycle (laneOf rec b) (waitsOf d rec) d (rec .share .banks .act .at) (getD (rec .share .four .at) 3 0) ≤ t → Quiet (rules.act b row)
   act-quiet row h =

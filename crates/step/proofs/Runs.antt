@@ -1,44 +1,37 @@
 -- A run of steps over a list of entries, from a fresh record, goes through exactly when the rules hold, and judges each entry on the way as the list does. It is
 -- said of any function that keeps the promise of `step`; and what keeps the promise of `run` is such steps. Both promises are read off the generated contracts.
-use Prim.Native.Nat.{ℕ, zero, suc, _≤_, _<_}
+use Prim.Native.Nat.{ℕ, zero, suc}
 use mathlib.Core.Path.{_≡_, refl, ap, sym, _∙_}
-use mathlib.Core.Logic.{_↔_, ⊎-elim}
+use mathlib.Core.Logic.{_↔_}
 use mathlib.Core.Bool.{Bool, true, false, cond, _&&_}
 use mathlib.Core.List.{List, [], _∷_}
 use mathlib.Core.Option.{Option, none, some, Option·map, map-eq-some-iff}
-use native.Mathlib.Omega.{arith}
-use lib.Dec.{leb}
 use lib.ListN.{drop}
 use contract.Lifetimes.{Lfts}
 use denote.Ref.{now}
 use denote.Triple.Clauses.{AtExit, atExit}
 use denote.Triple.Entry.{Args}
-use borrow.Author.Tests.{le-ltb}
-use Rattle.rules.specs.Card as rules
 use Rattle.rules.specs.Ranges.{cardGood}
-use Rattle.rules.specs.Past.{Past}
-use Rattle.rules.specs.Folds.{orElse, firstOf}
 use Rattle.rules.specs.Entries.{Entry, pastOf}
-use Rattle.rules.specs.Checks.{Refusal, refusal, unless, checks, above, entryChecks, entryRefusal}
-use Rattle.rules.specs.Lent.{Lent, commandIn, moveIn, ledgerWith, stepRefusal, lentAfter, lastCycle, standsAt, standing, fresh, AllTaken}
-use Rattle.rules.proofs.Tests.{le-cases}
-use Rattle.rules.proofs.Taken.{paid-to-last}
-use Rattle.rules.proofs.StepByList.{step-by-list, step-below}
+use Rattle.rules.specs.Checks.{Refusal, entryRefusal}
+use Rattle.rules.specs.Lent.{Lent, ledgerWith, stepRefusal, lentAfter, standing, fresh, AllTaken}
+use Rattle.rules.proofs.Taken.{unmoved}
+use Rattle.rules.proofs.StepByList.{step-unmoved}
 use Rattle.rules.proofs.Sound.{step-passed}
 use Rattle.rules.proofs.Steps.{runSteps, AllEntries, entries-taken, runs-iff}
 use Rattle.card.specs.declared.Card.{Card}
 use Rattle.card.specs.Values.{cardOf}
 use Rattle.pins.specs.Fronts.{frontOf}
-use Rattle.ledger.specs.Values.{ledgerOf, codeOf, isNone, unlessRefused}
-use Rattle.ledger.proofs.Promises.{code-is}
+use Rattle.ledger.specs.Values.{ledgerOf, isNone, unlessRefused}
 use Rattle.bank.specs.declared.Record.{Record}
 use Rattle.bank.specs.Values.{lentOf, freshOf}
-use Rattle.bank.specs.After.{recordAfter}
+use Rattle.bank.specs.Both.{ledgersIn}
 use Rattle.bank.proofs.Beginning.{fresh-lent}
 use Rattle.step.specs.declared.Ran.{Ran}
 use Rattle.step.specs.declared.Stepped.{Stepped}
-use Rattle.step.specs.Values.{refusalOf, recordWith}
+use Rattle.step.specs.Values.{refusalOf, secondWith, recordBy, recordWith}
 use Rattle.step.specs.Runs.{entryAt, takes, commandsBy, refreshesBy, ran, behind, runOf}
+use Rattle.step.proofs.Leaves.{ledgers-coded}
 use Rattle.step.proofs.Promises.{step-claims, run-claims}
 use Rattle.step.proofs.offering.step as step
 use Rattle.step.proofs.turns.run as public
@@ -64,23 +57,9 @@ Keeps f = (r : Record) (e : Entry) →
 -- whose later steps nod through
 pub record Judges (f : Record → Entry → Stepped) (card : Card) (es : List Entry) : Type 0 where
   pub accepts : ((s : Record) × (run f (freshOf card) es ≡ some s)) ↔ AllEntries (cardOf card) [] es
-  pub stands : (s : Record) → run f (freshOf card) es ≡ some s → lentOf s ≡ standing (cardOf card) (pastOf (cardOf card) es) 0
+  pub stands : (s : Record) → run f (freshOf card) es ≡ some s → lentOf s ≡ standing (cardOf card) (pastOf (cardOf card) es) unmoved
   pub next : (s : Record) → run f (freshOf card) es ≡ some s → (e : Entry) → refusalOf (f s e .answer) ≡ entryRefusal (cardOf card) (pastOf (cardOf card) es) e
   pub still : (s : Record) → run f (freshOf card) es ≡ some s → (e : Entry) (x : Refusal) → entryRefusal (cardOf card) (pastOf (cardOf card) es) e ≡ some x → f s e .rec ≡ s
-
--- ---- the list's own refusal, also below the cycle where the ledger stands
-early : (card : rules.Card) (past : Past) (e : Entry) → e .stamp < standsAt past 0 → entryRefusal card past e ≡ some (refusal 5 0 0)
-unfolding standsAt lastCycle entryRefusal entryChecks checks above firstOf orElse unless
-early card [] e h = absurd (omega arith)
-early card (x ∷ p) e h = rw (le-ltb (x .stamp) (e .stamp) (omega arith))
-
-pub by-list : (card : rules.Card) (past : Past) → cardGood card ≡ true → AllTaken card past → (e : Entry) → stepRefusal (standing card past 0) e ≡ entryRefusal card past e
-by-list card past good all e =
-    let paid = paid-to-last card past all in
-    ⊎-elim
-    (λ (p : (standsAt past 0 ≤ e .stamp) × (leb (standsAt past 0) (e .stamp) ≡ true)). step-by-list card past 0 good all paid e (p .0))
-    (λ (p : (e .stamp < standsAt past 0) × (leb (standsAt past 0) (e .stamp) ≡ false)). step-below card past 0 good all paid e (p .0) ∙ sym (early card past e (p .0)))
-    (le-cases (standsAt past 0) (e .stamp))
 
 neither : {A : Type 0} (b : Bool) (x y z : A) → cond (b && false) x z ≡ cond (b && false) y z
 neither true x y z = refl
@@ -110,12 +89,13 @@ module _ (f : Record → Entry → Stepped) (keeps : Keeps f) where
 
   -- ---- over bytes: what keeps the promise of `run` is these steps, to the bit
   left-record : (r : Record) (e : Entry) → stepRefusal (lentOf r) e ≡ none → f r e .rec ≡ recordWith r e
-  unfolding unlessRefused recordWith
+  unfolding unlessRefused recordWith ledgersIn
   left-record r e n =
-      let after = recordAfter r (commandIn (lentOf r) e) (moveIn (lentOf r) e) (e .stamp) in
-      let is : f r e .rec ≡ after (f r e .rec .share .ledger) = rw n at (keeps r e .is) in
-      let there : ledgerOf (f r e .rec .share .ledger) ≡ ledgerWith (lentOf r) e = rw n at (keeps r e .ledger) in
-      is ∙ ap after (sym (code-is (f r e .rec .share .ledger)) ∙ ap codeOf there)
+      let next = f r e .rec in
+      let is : next ≡ recordBy r e (ledgersIn next) = rw n at (keeps r e .is) in
+      let first : ledgerOf (next .first .ledger) ≡ ledgerWith (lentOf r) e 0 = rw n at (keeps r e .first) in
+      let second : ledgerOf (next .second .ledger) ≡ secondWith r e = rw n at (keeps r e .second) in
+      is ∙ ap (recordBy r e) (ledgers-coded (ledgersIn next) _ _ first second)
 
   run-is : (n : ℕ) (r : Record) (bs : List ℕ) → runOf n r bs ≡ steps f n r bs
   unfolding runOf steps
@@ -135,13 +115,13 @@ module _ (f : Record → Entry → Stepped) (keeps : Keeps f) where
     to-steps : (s : Record) → run f (freshOf card) es ≡ some s → runSteps (fresh (cardOf card)) es ≡ some (lentOf s)
     to-steps s e = rw (← fresh-lent card) (sym (run-lent es (freshOf card)) ∙ ap (λ (o : Option Record). Option·map lentOf o) e)
 
-    holds : (s : Record) → run f (freshOf card) es ≡ some s → AllEntries (cardOf card) [] es × (lentOf s ≡ standing (cardOf card) (pastOf (cardOf card) es) 0)
+    holds : (s : Record) → run f (freshOf card) es ≡ some s → AllEntries (cardOf card) [] es × (lentOf s ≡ standing (cardOf card) (pastOf (cardOf card) es) unmoved)
     holds s e = runs-iff (cardOf card) good es (lentOf s) .0 (to-steps s e)
 
     goes : AllEntries (cardOf card) [] es → (s : Record) × (run f (freshOf card) es ≡ some s)
     goes all =
-        let end = runs-iff (cardOf card) good es (standing (cardOf card) (pastOf (cardOf card) es) 0) .1 (all, refl) in
-        let from : runSteps (lentOf (freshOf card)) es ≡ some (standing (cardOf card) (pastOf (cardOf card) es) 0) = rw (fresh-lent card) end in
+        let end = runs-iff (cardOf card) good es (standing (cardOf card) (pastOf (cardOf card) es) unmoved) .1 (all, refl) in
+        let from : runSteps (lentOf (freshOf card)) es ≡ some (standing (cardOf card) (pastOf (cardOf card) es) unmoved) = rw (fresh-lent card) end in
         let p = map-eq-some-iff lentOf (run f (freshOf card) es) .0 (run-lent es (freshOf card) ∙ from) in
         (p .0, p .1)
 
@@ -149,7 +129,7 @@ module _ (f : Record → Entry → Stepped) (keeps : Keeps f) where
     next-is s r e =
         let h = holds s r in
         let all : AllTaken (cardOf card) (pastOf (cardOf card) es) = unfold pastOf in entries-taken (cardOf card) [] (unfold AllTaken in tt) es (h .0) in
-        rw (h .1) (by-list (cardOf card) (pastOf (cardOf card) es) good all e)
+        rw (h .1) (step-unmoved (cardOf card) (pastOf (cardOf card) es) good all e)
 
     pub judges : Judges f card es
     unfolding unlessRefused

@@ -17,7 +17,7 @@ use Rattle.pins.specs.Values.{levelOf}
 use Rattle.ledger.specs.declared.Ledger.{Ledger}
 use Rattle.ledger.specs.Values.{ledgerOf, codeOf}
 use Rattle.ledger.proofs.Deadlines.{sound, none-failing}
-use Rattle.bank.specs.declared.Record.{Record}
+use Rattle.step.specs.declared.single.Single.{Single}
 use Rattle.step.specs.Ready.{standsOf}
 use Rattle.step.specs.Quick.{EndArgs}
 use Rattle.step.proofs.Kept.{ledger-back}
@@ -32,13 +32,13 @@ awake-so powerDown e = not-so e
 awake-so selfRefresh e = not-so e
 awake-so deep e = not-so e
 
-pub record Stands (rec : Record) : Type 0 where
+pub record Stands (rec : Single) : Type 0 where
   pub seen : rec .last .seen ≡ true
   pub there : rec .share .ledger .at ≡ rec .last .at
   pub skips : rec .share .ledger .skipped ≤ rec .share .ledger .at
   pub wakes : levelOf (rec .share .ledger .level) ≡ awake
 
-pub stands-so : (rec : Record) → standsOf rec ≡ true → Stands rec
+pub stands-so : (rec : Single) → standsOf rec ≡ true → Stands rec
 unfolding standsOf
 stands-so rec e =
     let a = both-true _ _ e in
@@ -47,7 +47,7 @@ stands-so rec e =
     record { seen = c .0; there = eqb-true _ _ (c .1); skips = leb-true _ _ (b .1); wakes = awake-so _ (a .1) }
 
 -- ---- the ledger moved on to a cycle before its deadline
-module _ (rec : Record) (t : ℕ) (a : EndArgs rec t) where
+module _ (rec : Single) (t : ℕ) (a : EndArgs rec t) where
   abbrev g : Ledger
   g = rec .share .ledger
 

@@ -5,67 +5,76 @@ use mathlib.Core.List.{List}
 use native.Mathlib.Omega.{arith}
 use lib.ListN.{length, take, drop}
 use Rattle.card.specs.declared.Delays.{Delays}
-use Rattle.bank.proofs.Sizes.{Whole}
-use Rattle.step.specs.declared.Ran.{Ran}
-use Rattle.step.specs.Runs.{ran, runOf}
-use Rattle.step.specs.Parts.{Prepared, Fitting, SoFar, Turned}
+use Rattle.bank.specs.declared.Share.{Share}
+use Rattle.bank.proofs.Sizes.{ShareWhole}
+use Rattle.step.specs.declared.single.Gone.{Gone}
+use Rattle.step.specs.Runs.{ran, behind, runOf}
+use Rattle.step.specs.Single.{whole, ranWith, Ready, RunsTo, FitGone, SoFar, Turned}
+use Rattle.step.specs.Parts.{onwards}
 use Rattle.step.specs.Quick.{quickOf}
-use Rattle.step.proofs.Onward.{rest-of, Part, run-part, behind-none}
+use Rattle.step.proofs.Onward.{rest-of, run-part, behind-none}
 use Rattle.step.proofs.Ahead.{quick-part}
-use Rattle.step.proofs.Joining.{join, left, Joined, fitting, joined-so, full, refused}
+use Rattle.step.proofs.Joining.{join, left, Behind, Joined, fitting, joined-so, full, refused}
 
-module _ (d : Delays) (bs : List ℕ) (most : ℕ) (p : Ran) (s : SoFar d bs most p) (arrays : Whole (p .rec)) (small : length bs < 2 ^ 64)
-    (q : Ran) (quick : q ≡ quickOf (left most p) d (p .rec) (take (length bs - p .used) (drop (p .used) bs))) where
-  part : Part (left most p) (p .rec) (drop (p .used) bs) q
-  part = rw quick (rw (rest-of bs (p .used)) (quick-part (left most p) d (p .rec) (drop (p .used) bs) (s .sound) (record { passed = s .sound .good; arrays = arrays })))
+module _ (d : Delays) (bs : List ℕ) (most : ℕ) (p : Gone) (s : SoFar d bs most p) (arrays : ShareWhole (p .rec .share)) (small : length bs < 2 ^ 64)
+    (q : Gone) (quick : q ≡ quickOf (left most p) d (p .rec) (take (length bs - p .used) (drop (p .used) bs))) where
+  part : Behind bs (left most p) p q
+  part x = rw quick (rw (rest-of bs (p .used)) (quick-part (left most p) d (p .rec) (drop (p .used) bs) (s .sound) arrays x))
 
-  pub quick-fits : Fitting p q
+  pub quick-fits : FitGone p q
   quick-fits = fitting d bs most p s arrays q part small
 
-  module _ (t : Ran) (ts : t ≡ join p q) where
+  module _ (t : Gone) (ts : t ≡ join p q) where
     then : Joined d bs most p t
     then = rw ts (joined-so d bs most p s arrays q part)
 
     later : t .used ≡ p .used + q .used
-    later = ap (λ (x : Ran). x .used) ts
+    later = ap (λ (g : Gone). g .used) ts
 
     pub whole-turn : most ≤ t .used / 10 → Turned d bs most p t
-    whole-turn h = record { so-far = then .so-far; same = then .same; not-less = omega (arith, later); ends = λ e. full bs most t h }
+    unfolding ranWith
+    whole-turn h = record { so-far = then .so-far; same = then .same; not-less = omega (arith, later); ends = λ e x. full bs most (ranWith x t) h }
 
-    pub table-asks : Prepared (t .rec) d
+    pub table-asks : Ready (t .rec) d
     table-asks = then .so-far .sound
 
-    module _ (less : t .used / 10 < most) (o : Ran) (one : o ≡ runOf 1 (t .rec) (drop (t .used) bs)) where
-      one-part : Part 1 (t .rec) (drop (t .used) bs) o
-      one-part = rw one (run-part 1 (t .rec) (drop (t .used) bs))
+    module _ (less : t .used / 10 < most) (o : Gone) (one : RunsTo 1 (t .rec) (drop (t .used) bs) o) where
+      one-part : Behind bs 1 t o
+      one-part x = rw (one x) (run-part 1 (whole x (t .rec)) (drop (t .used) bs))
 
-      table-part : Part (left most t) (t .rec) (drop (t .used) bs) o
-      table-part = record { count = one-part .count; few = omega (arith, one-part .few, less); used = one-part .used; is = one-part .is }
+      table-part : Behind bs (left most t) t o
+      table-part x =
+          let h = one-part x in
+          record { count = h .count; few = omega (arith, h .few, less); used = h .used; is = h .is }
 
-      pub table-fits : Fitting t o
+      pub table-fits : FitGone t o
       table-fits = fitting d bs most t (then .so-far) (then .arrays) o table-part small
 
-      module _ (r : Ran) (rs : r ≡ join t o) where
+      module _ (r : Gone) (rs : r ≡ join t o) where
         all : Joined d bs most t r
         all = rw rs (joined-so d bs most t (then .so-far) (then .arrays) o table-part)
 
         on : r .used ≡ t .used + o .used
-        on = ap (λ (x : Ran). x .used) rs
+        on = ap (λ (g : Gone). g .used) rs
 
         -- where nothing was taken the run ends
-        still : r .used ≡ p .used → r ≡ t
-        unfolding runOf
-        still e =
-            let z : one-part .count ≡ 0 = omega (arith, later, on, one-part .used) in
-            let n : o ≡ ran (t .rec) 0 0 0 = one-part .is ∙ rw z in
-            rs ∙ ap (join t) n ∙ behind-none t
+        nothing-more : r .used ≡ p .used → o .used ≡ 0
+        nothing-more e = omega (arith, later, on)
+
+        still : r .used ≡ p .used → (x : Share) → ranWith x r ≡ ranWith x t
+        unfolding runOf ranWith
+        still e x =
+            let z : one-part x .count ≡ 0 = omega (arith, nothing-more e, one-part x .used) in
+            let n : ranWith x o ≡ ran (whole x (t .rec)) 0 0 0 = one-part x .is ∙ rw z in
+            ap (ranWith x) rs ∙ ap (behind (t .used) (t .commands) (t .refreshes)) n ∙ behind-none (ranWith x t)
 
         pub turn-so : Turned d bs most p r
         turn-so = record {
           so-far = all .so-far;
-          same = all .same ∙ then .same;
+          same = λ x. all .same x ∙ then .same x;
           not-less = omega (arith, later, on);
-          ends = λ e.
-              let z : runOf 1 (t .rec) (drop (t .used) bs) .used ≡ 0 = rw (← one) (omega (arith, later, on, e)) in
-              all .same ∙ refused bs most t z ∙ sym (still e);
+          ends = λ e x. all .same x ∙ ended e x ∙ sym (still e x);
         }
+          where
+            ended : r .used ≡ p .used → (x : Share) → onwards bs most (ranWith x t) ≡ ranWith x t
+            ended e x = unfold ranWith in refused bs most (ranWith x t) (rw (← one x) (nothing-more e))

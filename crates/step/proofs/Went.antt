@@ -9,9 +9,10 @@ use lib.Dec.{ltb}
 use lib.ListN.{length, getD, drop, length-drop}
 use lib.Seq.{drop-drop}
 use borrow.Author.Tests.{le-leb, ltb-true, eq-eqb, not-true, not-false}
+use Rattle.rules.specs.Commands.{NOP, is}
 use Rattle.rules.specs.Pins.{decode}
 use Rattle.rules.specs.Levels.{awake, depth, sameLevel}
-use Rattle.rules.specs.Entries.{entry}
+use Rattle.rules.specs.Entries.{Entry, entry, recordedAs}
 use Rattle.rules.specs.Lent.{numberOf, countedTo, ledgerTo}
 use Rattle.rules.proofs.Tests.{both-true}
 use Rattle.card.specs.declared.Delays.{Delays}
@@ -25,13 +26,12 @@ use Rattle.ledger.proofs.Deadlines.{same-deadline}
 use Rattle.bank.specs.declared.Banks.{Banks}
 use Rattle.bank.specs.declared.Bus.{Bus}
 use Rattle.bank.specs.declared.Four.{Four}
-use Rattle.bank.specs.declared.Record.{Record}
-use Rattle.step.specs.Values.{recordWith}
+use Rattle.step.specs.declared.single.Single.{Single}
+use Rattle.step.specs.Single.{gone, goneBehind, readBy, singleWith}
 use Rattle.step.specs.declared.waits.Waits.{Waits}
 use Rattle.step.specs.Ready.{Hot, Nop, Act, Rd, Wr, Pre, Cold, laneOf, waitsOf, hotOf, readyBy, standsOf, readyOf}
-use Rattle.step.specs.Runs.{commandsBy, ran, behind}
 use Rattle.step.specs.Quick.{goesOn, quickOf, hotCount, nowOf, EndArgs}
-use Rattle.step.proofs.Onward.{behind-twice, behind-none}
+use Rattle.step.proofs.Farther.{behind-twice, behind-none}
 use Rattle.step.proofs.Standing.{not-so, Stands, stands-so}
 use Rattle.step.proofs.Places.{banksThen, busThen, fourThen, refpb-kept, taken-so}
 use Rattle.step.proofs.Begun.{Going}
@@ -46,7 +46,7 @@ count-low Pre = omega arith
 count-low Cold = omega arith
 
 -- what the code finds of the entry here
-pub record Saw (d : Delays) (rec : Record) (v : List ℕ) (most : ℕ) (banks : Banks) (bus : Bus) (four : Four) (u used nops left : ℕ)
+pub record Saw (d : Delays) (rec : Single) (v : List ℕ) (most : ℕ) (banks : Banks) (bus : Bus) (four : Four) (u used nops left : ℕ)
     (f : Front) (hot : Hot) (b : ℕ) (w : Waits) (end : ℕ) (clear ok : Bool) : Type 0 where
   pub going : Going d rec v most banks bus four u used nops left
   pub more : 0 < left
@@ -58,11 +58,15 @@ pub record Saw (d : Delays) (rec : Record) (v : List ℕ) (most : ℕ) (banks : 
   pub ready : clear ≡ readyBy hot (laneOf (nowOf rec banks bus four u) b) w d bus (banks .act .at) (getD (four .at) 3 0) (f .stamp)
   pub passes : ok ≡ (f .whole && ((ltb u (f .stamp) && ltb (f .stamp) end) && clear))
 
-module _ {d : Delays} {rec : Record} {v : List ℕ} {most : ℕ} {banks : Banks} {bus : Bus} {four : Four} {u used nops left : ℕ}
+module _ {d : Delays} {rec : Single} {v : List ℕ} {most : ℕ} {banks : Banks} {bus : Bus} {four : Four} {u used nops left : ℕ}
     {f : Front} {hot : Hot} {b : ℕ} {w : Waits} {end : ℕ} {clear ok : Bool}
     (s : Saw d rec v most banks bus four u used nops left f hot b w end clear ok) where
-  abbrev now : Record
+  abbrev now : Single
   now = nowOf rec banks bus four u
+
+  -- what an entry adds to the commands
+  abbrev counts : Entry → ℕ
+  counts e = cond (is NOP (recordedAs (readBy now e))) 0 1
 
   abbrev g : Going d rec v most banks bus four u used nops left
   g = s .going
@@ -88,7 +92,7 @@ module _ {d : Delays} {rec : Record} {v : List ℕ} {most : ℕ} {banks : Banks}
       rw (stands-now, same-end, s .passes, s .deadline, c)
 
   from-here : (n : ℕ) → quickOf (suc n) d now (drop used v) ≡
-      cond ok (behind 10 (commandsBy now (entry (f .stamp) (f .pins))) 0 (quickOf n d (recordWith now (entry (f .stamp) (f .pins))) (drop 10 (drop used v)))) (ran now 0 0 0)
+      cond ok (goneBehind 10 (counts (entry (f .stamp) (f .pins))) 0 (quickOf n d (singleWith now (entry (f .stamp) (f .pins))) (drop 10 (drop used v)))) (gone now 0 0 0)
   unfolding quickOf
   from-here n = rw (← s .front, goes)
 
@@ -96,14 +100,14 @@ module _ {d : Delays} {rec : Record} {v : List ℕ} {most : ℕ} {banks : Banks}
   abbrev commands : ℕ
   commands = used / 10 - nops
 
-  pub stopped : not ok ≡ true → ran now used commands 0 ≡ quickOf most d rec v
+  pub stopped : not ok ≡ true → gone now used commands 0 ≡ quickOf most d rec v
   stopped n = go left (g .same)
     where
-      go : (k : ℕ) → quickOf most d rec v ≡ behind used commands 0 (quickOf k d now (drop used v)) → ran now used commands 0 ≡ quickOf most d rec v
-      go zero e = sym (e ∙ (unfold quickOf in behind-none (ran now used commands 0)))
+      go : (k : ℕ) → quickOf most d rec v ≡ goneBehind used commands 0 (quickOf k d now (drop used v)) → gone now used commands 0 ≡ quickOf most d rec v
+      go zero e = sym (e ∙ (unfold quickOf in behind-none (gone now used commands 0)))
       go (suc k) e =
-          let h : quickOf (suc k) d now (drop used v) ≡ ran now 0 0 0 = from-here k ∙ rw (not-true ok n) in
-          sym (e ∙ ap (behind used commands 0) h ∙ behind-none (ran now used commands 0))
+          let h : quickOf (suc k) d now (drop used v) ≡ gone now 0 0 0 = from-here k ∙ rw (not-true ok n) in
+          sym (e ∙ ap (goneBehind used commands 0) h ∙ behind-none (gone now used commands 0))
 
   module _ (yes : not ok ≡ false) where
     parts : (f .whole ≡ true) × (ltb u (f .stamp) ≡ true) × (ltb (f .stamp) end ≡ true) × (clear ≡ true)
@@ -137,15 +141,15 @@ module _ {d : Delays} {rec : Record} {v : List ℕ} {most : ℕ} {banks : Banks}
         let t = f .stamp in
         let e = entry t (f .pins) in
         let taken = taken-so rec banks bus four u t (f .pins) stands (g .ends) (le-of-lt above) not-cold in
-        let r : nowOf rec banks′ bus′ four′ t ≡ recordWith now e = rw (bs, us, rs, ← k, ← l, s .kind, s .bank) (sym (taken .0)) in
-        let c : hotCount h ≡ commandsBy now e = rw (← k, s .kind) (sym (taken .1)) in
+        let r : nowOf rec banks′ bus′ four′ t ≡ singleWith now e = rw (bs, us, rs, ← k, ← l, s .kind, s .bank) (sym (taken .0)) in
+        let c : hotCount h ≡ counts e = rw (← k, s .kind) (sym (taken .1)) in
         let more-commands : used / 10 - nops + hotCount h ≡ (used + 10) / 10 - nops′ = omega (arith, g .few, ks, count-low h) in
         let n : left ≡ suc (left - 1) = omega (arith, s .more) in
         let x = quickOf (left - 1) d (nowOf rec banks′ bus′ four′ t) (drop (used + 10) v) in
-        let y : quickOf left d now (drop used v) ≡ behind 10 (hotCount h) 0 x =
+        let y : quickOf left d now (drop used v) ≡ goneBehind 10 (hotCount h) 0 x =
         ap (λ (k : ℕ). quickOf k d now (drop used v)) n ∙ from-here (left - 1) ∙ rw (not-false ok yes, ← r, ← c, drop-drop 10 used v) in
         record {
-          same = g .same ∙ ap (behind used commands 0) y ∙ behind-twice used commands 0 10 (hotCount h) 0 x ∙ ap (λ (m : ℕ). behind (used + 10) m 0 x) more-commands;
+          same = g .same ∙ ap (goneBehind used commands 0) y ∙ behind-twice used commands 0 10 (hotCount h) 0 x ∙ ap (λ (m : ℕ). goneBehind (used + 10) m 0 x) more-commands;
           kept = ap (λ (y : Banks). y .refpb) bs ∙ refpb-kept h b a t (rec .share .mr2) banks ∙ g .kept;
           stood = g .stood;
           ends = ends-there;

@@ -15,14 +15,14 @@ use Rattle.rules.specs.Bits.{bits, on}
 use Rattle.rules.specs.Commands.{banks}
 use Rattle.rules.specs.Registers.{Latency, row, latencies, atCode, rlOf, wlOf}
 use Rattle.rules.specs.Folds.{Source, Rule, permitted, permittedBy, bound, firstBroken}
-use Rattle.rules.specs.Delays.{Ask, Question, Lookup, without, from}
+use Rattle.rules.specs.Delays.{Ask, Asked, mine, Lookup, without, from}
 use Rattle.rules.proofs.Tests.{eq-cases, _&_}
 use Rattle.bank.specs.Values.{kept, once, place, four}
 use Rattle.bank.specs.declared.Once.{Once}
 use Rattle.bank.specs.declared.Four.{Four}
 use Rattle.step.specs.Ready.{max4, topOf}
 
-pub quiet : (look : Lookup) (t : ℕ) (qs : List (Rule Question ℕ)) → Every (λ q. bound look q ≤ t) qs → firstBroken look qs t ≡ none
+pub quiet : (look : Lookup) (t : ℕ) (qs : List (Rule Asked ℕ)) → Every (λ q. bound look q ≤ t) qs → firstBroken look qs t ≡ none
 unfolding Every firstBroken
 quiet look t [] h = refl
 quiet look t (q ∷ qs) h = rw (le-leb (bound look q) t (h .0)) (quiet look t qs (h .1))
@@ -37,7 +37,11 @@ alone {x} {t} h = omega arith
 pub both : {x y t : ℕ} → x ≤ t → y ≤ t → max x y ≤ t
 both {x} {y} {t} p q = omega arith
 
-module _ (s : Source Question ℕ) (t : ℕ) where
+module _ (s : Source Asked ℕ) (t : ℕ) where
+  pub none-within : permitted s none ≤ t
+  unfolding permitted
+  none-within = omega arith
+
   -- the entry need not have been there
   pub kept-within : (seen : Bool) (at noted : ℕ) → at + s .delay noted ≤ t → permitted s (getElem? (kept seen at noted) 0) ≤ t
   unfolding permitted kept
@@ -73,10 +77,10 @@ pub four-parts : (a b c d t : ℕ) → max4 a b c d ≤ t → (a ≤ t) × (b �
 four-parts a b c d t h = (omega arith, omega arith, omega arith, omega arith)
 
 -- a question asked for bank k
-abbrev pub about : Ask → (delay k : ℕ) → Source Question ℕ
-about a x k = record { ask = record { ask = a; bank = k }; delay = λ m. x }
+abbrev pub about : Ask → (delay k : ℕ) → Source Asked ℕ
+about a x k = record { ask = mine (record { ask = a; bank = k }); delay = λ m. x }
 
-pub others-within : (look : Lookup) (a : Ask) (x own t : ℕ) (bs : List ℕ) → Every (λ k. permitted (about a x k) (look (record { ask = a; bank = k })) ≤ t) bs
+pub others-within : (look : Lookup) (a : Ask) (x own t : ℕ) (bs : List ℕ) → Every (λ k. permitted (about a x k) (look (mine (record { ask = a; bank = k }))) ≤ t) bs
     → permittedBy look (from (without own bs) x a) ≤ t
 unfolding Every from without permittedBy
 others-within look a x own t [] h = omega arith

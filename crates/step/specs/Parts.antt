@@ -1,31 +1,33 @@
 -- The parts of a step, each with its own refusals.
-use Prim.Native.Nat.{ℕ, _+_, _-_, _*_, _/_, _≤_, _<_, _^_}
+use Prim.Native.Nat.{ℕ, _+_, _-_, _/_, _<_, _^_}
 use mathlib.Core.Path.{_≡_}
 use mathlib.Core.Bool.{Bool, true, cond, not, _&&_}
-use mathlib.Core.List.{List, [], _∷_}
+use mathlib.Core.List.{List, [], _∷_, map}
 use mathlib.Core.Option.{Option, none, some}
 use lib.Dec.{leb, eqb}
-use lib.ListN.{length, drop}
+use lib.ListN.{drop}
+use Rattle.rules.specs.Lists.{all}
 use Rattle.rules.specs.Card.{Card}
 use Rattle.rules.specs.Units.{Delays, delaysOf}
 use Rattle.rules.specs.Commands.{Command}
-use Rattle.rules.specs.Levels.{Read}
+use Rattle.rules.specs.Whose.{Whose, isOf, partOf, other, parts}
+use Rattle.rules.specs.Levels.{Read, readAs}
 use Rattle.rules.specs.States.{stateGood}
 use Rattle.rules.specs.Folds.{orElse, firstOf, firstBroken}
-use Rattle.rules.specs.Delays.{delayRules}
+use Rattle.rules.specs.Delays.{Answers, lookBoth, delayRules}
 use Rattle.rules.specs.Clock.{beatOf}
 use Rattle.rules.specs.Entries.{recordedAs, moveOf, judgedAs}
-use Rattle.rules.specs.Checks.{Refusal, unless, named, isWrong, isReserved, isBarred, valueGood}
-use Rattle.rules.specs.Lent.{Ledger, Lent, lookIn, aboveLast, Effect, effectOf, entered, failingOf, failingTo, ledgerGood, lentGood}
+use Rattle.rules.specs.Checks.{Refusal, unless, named, isWrong, isClash, isReserved, isBarred, valueGood}
+use Rattle.rules.specs.Lent.{Ledger, Share, Lent, lookIn, answersIn, aboveLast, notBehind, hasPart, Effect, effectOf, entered, failingOf, failingsTo, ledgerGood, lentGood}
 use Rattle.card.specs.Values.{clocksOf}
 use Rattle.card.specs.declared.Delays as code
 use Rattle.ledger.specs.Values.{ledgerOf}
 use Rattle.bank.specs.declared.Record.{Record}
 use Rattle.bank.specs.Values.{lentOf}
 use Rattle.bank.specs.After.{Changed}
+use Rattle.bank.specs.Both.{effectFor}
 use Rattle.step.specs.declared.Ran.{Ran}
 use Rattle.step.specs.declared.Stepped.{Stepped}
-use Rattle.step.specs.declared.account.Account.{Account}
 use Rattle.step.specs.declared.offering.Ruling.{Ruling}
 use Rattle.step.specs.Values.{refusalOf}
 use Rattle.step.specs.Runs.{behind, runOf}
@@ -36,22 +38,21 @@ pub record Prepared (rec : Record) (delays : code.Delays) : Type 0 where
   pub clocks : clocksOf delays ≡ delaysOf (lentOf rec .card)
 
 -- ---- the stamp and the account
--- 13 of the ledger, 5, and 11 below the stamp
-unfoldable pub openingRefusal : Card → (last : Option ℕ) → Ledger → ℕ → Option Refusal
-openingRefusal card last g t =
-    firstOf (unless (ledgerGood card g) 13 ∷ unless (aboveLast last t && leb (g .at) t) 5 ∷ named 11 (failingTo (beatOf card) g t) ∷ [])
+-- 13 of the ledgers, 5, and 11 below the stamp
+unfoldable pub openingRefusal : Lent → ℕ → Option Refusal
+openingRefusal l t =
+    firstOf (
+    unless (all (λ p. ledgerGood (l .card) (l .share p .ledger)) (parts (l .card))) 13 ∷
+    unless (aboveLast (l .last) t && notBehind l t) 5 ∷
+    named 11 (failingsTo l t) ∷ []
+    )
 
 -- of what the account is refused with: all but an 11 at the stamp, and 5 by the last entry before any 11
 unfoldable pub openingOf : (rises : Bool) → (stamp : ℕ) → Option Refusal → Option Refusal
 openingOf rises t none = unless rises 5
 openingOf rises t (some x) = cond (eqb (x .number) 11) (orElse (unless rises 5) (cond (leb t (x .cycle)) none (some x))) (some x)
 
-pub record AccountAt (x : Effect) (card : Card) (last : Option ℕ) (g : Ledger) (t : ℕ) (r : Account) : Type 0 where
-  pub opening : refusalOf (r .opening) ≡ openingRefusal card last g t
-  pub here : openingRefusal card last g t ≡ none → refusalOf (r .here) ≡ named 11 (failingOf (beatOf card) (entered x (beatOf card) g t))
-  pub ledger : openingRefusal card last g t ≡ none → refusalOf (r .here) ≡ none → ledgerOf (r .ledger) ≡ entered x (beatOf card) g t
-
--- ---- 6 to 10, and 16
+-- ---- 6 to 10, 16 and 24
 unfoldable pub commandRefusal : Card → (ℕ → Bool) → (counter : ℕ) → Command → Option Refusal
 commandRefusal card isOpen n c = firstOf (unless (stateGood isOpen n c) 8 ∷ unless (valueGood card c) 9 ∷ [])
 
@@ -59,62 +60,69 @@ unfoldable pub readingRefusal : Card → (ℕ → Bool) → (counter : ℕ) → 
 readingRefusal card isOpen n r =
     firstOf (
     unless (not (isWrong r)) 6 ∷
+    unless (not (isClash r)) 24 ∷
     unless (not (isReserved r)) 7 ∷
     unless (stateGood isOpen n (judgedAs r)) 8 ∷
     unless (not (isBarred r)) 16 ∷
     unless (valueGood card (judgedAs r)) 9 ∷ []
     )
 
-unfoldable pub judgedRefusal : Delays → Lent → Read → (stamp : ℕ) → Option Refusal
-judgedRefusal delays l r t =
-    let s = l .share in
-    orElse (readingRefusal (l .card) (s .open?) (s .counter) r)
-    (named 10 (firstBroken (lookIn (s .history)) (delayRules delays (judgedAs r) (moveOf r) (s .counter)) t))
+-- of a part, by its share and what the other one answers
+unfoldable pub judgedRefusal : Card → Delays → Share → (theirs : Answers) → Read → (stamp : ℕ) → Option Refusal
+judgedRefusal card delays s theirs r t =
+    orElse (readingRefusal card (s .open?) (s .counter) r)
+    (named 10 (firstBroken (lookBoth (lookIn (s .history)) theirs) (delayRules delays (judgedAs r) (moveOf r) (s .counter)) t))
 
--- ---- all of them
--- the ledger at the stamp of an entry that is read so
-unfoldable pub ledgerAs : Lent → Read → (stamp : ℕ) → Ledger
-ledgerAs l r t = entered (effectOf r (l .share .counter) (l .share .ledger .level)) (beatOf (l .card)) (l .share .ledger) t
+-- with what the account is refused with
+unfoldable pub ruledRefusal : Card → (last : Option ℕ) → Delays → Share → (theirs : Answers) → Read → (stamp : ℕ) → (told : Option Refusal) → Option Refusal
+ruledRefusal card last delays s theirs r t told = orElse (openingOf (aboveLast last t) t told) (orElse (judgedRefusal card delays s theirs r t) told)
 
-unfoldable pub ruledRefusal : Delays → Lent → Read → (stamp : ℕ) → Option Refusal
-ruledRefusal delays l r t =
-    orElse (openingRefusal (l .card) (l .last) (l .share .ledger) t)
-    (orElse (judgedRefusal delays l r t) (named 11 (failingOf (beatOf (l .card)) (ledgerAs l r t))))
+-- ---- all of them, of an entry that is read so
+unfoldable pub readOn : Lent → Whose → (pins : ℕ) → Read
+readOn l w p = readAs (l .card .sleeps) (l .card .paired) (l .share (partOf w) .ledger .level) p
 
-pub record Ruled (delays : Delays) (l : Lent) (x : Read) (t : ℕ) (r : Ruling) : Type 0 where
-  pub told : refusalOf (r .answer) ≡ ruledRefusal delays l x t
-  pub ledger : refusalOf (r .answer) ≡ none → ledgerOf (r .ledger) ≡ ledgerAs l x t
+unfoldable pub effectAs : Lent → Whose → Read → ℕ → Effect
+effectAs l w r p =
+    let own = l .share (partOf w) in
+    effectFor (isOf p w) (effectOf r (own .counter) (own .ledger .level)) (l .share p .ledger .level)
+
+-- each part's ledger at the stamp
+unfoldable pub ledgerAs : Lent → Whose → Read → (stamp : ℕ) → ℕ → Ledger
+ledgerAs l w r t p = entered (effectAs l w r p) (beatOf (l .card)) (l .share p .ledger) t
+
+unfoldable pub rulingRefusal : Delays → Lent → Whose → Read → (stamp : ℕ) → Option Refusal
+rulingRefusal delays l w r t =
+    orElse (openingRefusal l t)
+    (orElse (judgedRefusal (l .card) delays (l .share (partOf w)) (answersIn l (other (partOf w))) r t)
+    (named 11 (firstOf (map (λ p. failingOf (beatOf (l .card)) (ledgerAs l w r t p)) (parts (l .card))))))
+
+-- `told` speaks of a part that the trace has
+pub record Ruled (delays : Delays) (l : Lent) (w : Whose) (x : Read) (t : ℕ) (r : Ruling) : Type 0 where
+  pub told : hasPart (l .card) (partOf w) ≡ true → refusalOf (r .answer) ≡ rulingRefusal delays l w x t
+  pub first : refusalOf (r .answer) ≡ none → ledgerOf (r .ledgers .first) ≡ ledgerAs l w x t 0
+  pub second : refusalOf (r .answer) ≡ none → ledgerOf (r .ledgers .second) ≡ cond (l .card .paired) (ledgerAs l w x t 1) (l .share 1 .ledger)
 
 -- the record is changed where the entry is taken, and only there
-pub record Settled (rec : Record) (stamp : ℕ) (x : Read) (w : Ruling) (r : Stepped) : Type 0 where
-  pub told : refusalOf (r .answer) ≡ refusalOf (w .answer)
-  pub kept : (y : Refusal) → refusalOf (w .answer) ≡ some y → r .rec ≡ rec
-  pub changed : refusalOf (w .answer) ≡ none → Changed rec stamp (recordedAs x) (moveOf x) (w .ledger) (r .rec)
+pub record Settled (rec : Record) (stamp : ℕ) (w : Whose) (x : Read) (y : Ruling) (r : Stepped) : Type 0 where
+  pub told : refusalOf (r .answer) ≡ refusalOf (y .answer)
+  pub kept : (z : Refusal) → refusalOf (y .answer) ≡ some z → r .rec ≡ rec
+  pub changed : refusalOf (y .answer) ≡ none → Changed rec stamp w (recordedAs x) (moveOf x) (y .ledgers) (r .rec)
 
 -- ---- a run
 -- what was run, and what was run behind it, add up in 64 bits
-pub record Fitting (first then : Ran) : Type 0 where
-  pub used : first .used + then .used < 2 ^ 64
-  pub commands : first .commands + then .commands < 2 ^ 64
-  pub refreshes : first .refreshes + then .refreshes < 2 ^ 64
+pub record Fits (u m f u′ m′ f′ : ℕ) : Type 0 where
+  pub used : u + u′ < 2 ^ 64
+  pub commands : m + m′ < 2 ^ 64
+  pub refreshes : f + f′ < 2 ^ 64
 
--- whole entries, at most so many and within the bytes, that left a sound record
-pub record SoFar (delays : code.Delays) (bs : List ℕ) (most : ℕ) (r : Ran) : Type 0 where
+abbrev pub Fitting : (first then : Ran) → Type 0
+Fitting a b = Fits (a .used) (a .commands) (a .refreshes) (b .used) (b .commands) (b .refreshes)
+
+-- one entry, if it is there and is taken, and a sound record again
+pub record OneOn (rec : Record) (delays : code.Delays) (bs : List ℕ) (r : Ran) : Type 0 where
+  pub is : r ≡ runOf 1 rec bs
   pub sound : Prepared (r .rec) delays
-  pub entries : ℕ
-  pub used : r .used ≡ 10 * entries
-  pub few : entries ≤ most
-  pub within : r .used ≤ length bs
-  pub commands : r .commands ≤ r .used
-  pub refreshes : r .refreshes ≤ r .used
 
 -- the whole run, where so much of it was run
 unfoldable pub onwards : List ℕ → (most : ℕ) → Ran → Ran
 onwards bs most r = behind (r .used) (r .commands) (r .refreshes) (runOf (most - r .used / 10) (r .rec) (drop (r .used) bs))
-
--- one turn: the whole run stays what it is, and where nothing was taken it ends there
-pub record Turned (delays : code.Delays) (bs : List ℕ) (most : ℕ) (before r : Ran) : Type 0 where
-  pub so-far : SoFar delays bs most r
-  pub same : onwards bs most r ≡ onwards bs most before
-  pub not-less : before .used ≤ r .used
-  pub ends : r .used ≡ before .used → onwards bs most r ≡ r

@@ -16,7 +16,7 @@ use Rattle.ledger.specs.Values.{deadlineOf}
 use Rattle.bank.specs.declared.Bus.{Bus}
 use Rattle.bank.specs.declared.Latest.{Latest}
 use Rattle.bank.specs.declared.Moves.{Moves}
-use Rattle.bank.specs.declared.Record.{Record}
+use Rattle.step.specs.declared.single.Single.{Single}
 use Rattle.step.specs.declared.cycles.Lane.{Lane}
 use Rattle.step.specs.declared.waits.Waits.{Waits}
 
@@ -59,11 +59,11 @@ abbrev pub wokenOf : Delays → Moves → ℕ
 wokenOf d x = max (x .«power_exit» .at + d .txp) (x .«self_exit» .at + d .txsr)
 
 -- the rules that every command but NOP has
-abbrev pub wholeOf : Delays → Record → ℕ
+abbrev pub wholeOf : Delays → Single → ℕ
 wholeOf d rec = max (restedOf d (rec .share .latest)) (wokenOf d (rec .share .moves))
 
 -- RL and WL by the present MR2; with those rules 6, and 10 after REFpb
-abbrev pub waitsOf : Delays → Record → Waits
+abbrev pub waitsOf : Delays → Single → Waits
 waitsOf d rec = record {
   mr2 = rec .share .mr2;
   rl = rlOf (rec .share .mr2);
@@ -74,7 +74,7 @@ waitsOf d rec = record {
 
 -- ---- the delay rules
 -- what the record holds for a bank
-abbrev pub laneOf : Record → ℕ → Lane
+abbrev pub laneOf : Single → ℕ → Lane
 laneOf rec b = record {
   opened = getD (rec .share .banks .opened) b false;
   refpb = getD (rec .share .banks .refpb .at) b 0;
@@ -129,12 +129,12 @@ readyBy Cold l w d bus acts fourth t = false
 
 -- ---- all of it
 -- the part is awake; the ledger stands at the last entry, and has skipped no more cycles than there were
-unfoldable pub standsOf : Record → Bool
+unfoldable pub standsOf : Single → Bool
 standsOf rec =
     let g = rec .share .ledger in
     rec .last .seen && eqb (g .at) (rec .last .at) && leb (g .skipped) (g .at) && sameLevel awake (levelOf (g .level))
 
-unfoldable pub readyOf : Delays → Record → (stamp pins : ℕ) → Bool
+unfoldable pub readyOf : Delays → Single → (stamp pins : ℕ) → Bool
 readyOf d rec t p =
     standsOf rec &&
     (ltb (rec .last .at) t && ltb t (deadlineOf (rec .card) (rec .share .ledger))) &&

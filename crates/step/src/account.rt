@@ -3,29 +3,19 @@ ghost use mathlib.Core.Path.{_≡_};
 ghost use Rattle.rules.specs.Past.{isCounted};
 ghost use Rattle.rules.specs.Lent.{aboveLast};
 ghost use Rattle.rules.specs.Lent as lent;
-ghost use Rattle.card.specs.Values.{cardOf};
 ghost use Rattle.pins.specs.Values.{commandOf, levelOf, readOf};
 ghost use Rattle.ledger.specs.Values as paid;
 ghost use Rattle.bank.specs.Values.{lastOf};
 ghost use Rattle.step.specs.Values.{refusalOf};
-ghost use Rattle.step.specs.Parts.{AccountAt, openingOf};
+ghost use Rattle.step.specs.Parts.{openingOf};
 use crate::Answer;
 use bank::Once;
-use card::Card;
 use ledger::Effect;
-use ledger::Ledger;
 use pins::Command;
 use pins::Level;
 use pins::Read;
 
-// 13 of the ledger, 5 and 11 below the stamp; then, where none of them is given, 11 at the stamp; and the ledger there.
-pub struct Account {
-    pub opening: Answer,
-    pub here: Answer,
-    pub ledger: Ledger,
-}
-
-fn rises(last: Once, stamp: u32) -> bool
+pub fn rises(last: Once, stamp: u32) -> bool
     ensures { λ r. ⌜ r ≡ aboveLast (lastOf last) stamp ⌝ }
 {
     if !last.seen {
@@ -56,7 +46,7 @@ pub fn effect_of(read: Read, counter: u8, level: Level) -> Effect
 }
 
 // Of what the account tells, all but an 11 at the stamp.
-fn opening(rises: bool, told: ledger::Answer, stamp: u32) -> Answer
+pub fn opening(rises: bool, told: ledger::Answer, stamp: u32) -> Answer
     ensures { λ r. ⌜ refusalOf r ≡ openingOf rises stamp (paid.refusalOf told) ⌝ }
 {
     match told {
@@ -95,18 +85,5 @@ pub fn as_told(told: ledger::Answer) -> Answer
             rule: rule,
             cycle: cycle,
         },
-    }
-}
-
-pub fn account_at(card: Card, last: Once, ledger: Ledger, stamp: u32, effect: Effect) -> Account
-    ensures { λ r. ⌜ AccountAt (paid.effectOf effect) (cardOf card) (lastOf last) (paid.ledgerOf ledger) stamp r ⌝ }
-{
-    let after = ledger::entered(ledger, card, stamp, effect);
-    let told = after.answer;
-    let there = after.ledger;
-    Account {
-        opening: opening(rises(last, stamp), told, stamp),
-        here: as_told(told),
-        ledger: there,
     }
 }

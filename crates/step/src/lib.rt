@@ -1,11 +1,14 @@
-// An entry offered to a record: 13, 5, 11 below its stamp, 6, 7, 8, 16, 9, 10, 11 at its stamp; and the record then. A run of entries, up to the first that is refused.
+// An entry offered to a record: 13, 5, 11 below its stamp, 6, 24, 7, 8, 16, 9, 10, 11 at its stamp; and the record then. A run of entries, up to the first that is refused.
 mod account;
+mod counts;
 mod cycles;
 mod delays;
 mod kinds;
 mod offering;
+mod pairs;
 mod reading;
 mod running;
+mod single;
 mod turns;
 mod waits;
 
@@ -21,6 +24,7 @@ pub enum Answer {
     Early,
     Overdue { rule: u8, cycle: u64 },
     WrongBits,
+    Clash,
     Reserved,
     State,
     Barred,

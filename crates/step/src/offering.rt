@@ -3,26 +3,32 @@ ghost use mathlib.Core.Path.{_≡_};
 ghost use Rattle.rules.specs.Folds.{orElse};
 ghost use Rattle.rules.specs.Entries.{entry};
 ghost use Rattle.rules.specs.Lent.{stepRefusal};
-ghost use Rattle.card.specs.Values.{clocksOf};
-ghost use Rattle.pins.specs.Values.{readOf};
+ghost use Rattle.card.specs.Values.{cardOf, clocksOf};
+ghost use Rattle.pins.specs.Values.{readOf, whoseOf};
 ghost use Rattle.ledger.specs.Values.{isNone};
-ghost use Rattle.bank.specs.Values.{lentOf};
+ghost use Rattle.ledger.specs.Values as paid;
+ghost use Rattle.bank.specs.Values.{lastOf, shareOf, busLook, lentOf};
 ghost use Rattle.step.specs.Values.{refusalOf, steppedAs, Left};
-ghost use Rattle.step.specs.Parts.{judgedRefusal, Ruled, Settled};
+ghost use Rattle.step.specs.Parts.{judgedRefusal, ruledRefusal, readOn, Ruled, Settled};
 use crate::Answer;
 use crate::Stepped;
 use crate::account;
 use crate::delays;
 use crate::reading;
+use bank::Bus;
+use bank::Ledgers;
+use bank::Once;
 use bank::Record;
+use bank::Share;
+use card::Card;
 use card::Delays;
-use ledger::Ledger;
 use pins::Read;
+use pins::Whose;
 
-// The answer, and the ledger at the stamp where it is taken.
+// The answer, and the ledgers at the stamp where it is taken.
 pub struct Ruling {
     pub answer: Answer,
-    pub ledger: Ledger,
+    pub ledgers: Ledgers,
 }
 
 pub fn taken(answer: Answer) -> bool
@@ -44,31 +50,67 @@ fn or_else(first: Answer, then: Answer) -> Answer
     first
 }
 
-// 6 to 10, and 16.
-fn judged(rec: Record, delays: Delays, read: Read, stamp: u32) -> Answer
-    ensures { λ r. ⌜ refusalOf r ≡ judgedRefusal (clocksOf delays) (lentOf rec) (readOf read) stamp ⌝ }
+// 6 to 10, 16 and 24, of the part that the entry comes to; of the other it knows the bus alone.
+fn judged(card: Card, share: Share, theirs: Bus, delays: Delays, read: Read, stamp: u32) -> Answer
+    ensures { λ r. ⌜ refusalOf r ≡ judgedRefusal (cardOf card) (clocksOf delays) (shareOf share) (busLook theirs) (readOf read) stamp ⌝ }
 {
-    let opened = rec.share.banks.opened;
-    let refused = reading::reading(rec.card, opened, rec.share.counter, read);
-    let late = delays::delayed(rec, delays, pins::judged(read), pins::move_of(read), stamp);
+    let opened = share.banks.opened;
+    let refused = reading::reading(card, opened, share.counter, read);
+    let late = delays::delayed(
+        share,
+        theirs,
+        delays,
+        pins::judged(read),
+        pins::move_of(read),
+        stamp,
+    );
     or_else(refused, late)
 }
 
-// 13 of the ledger, 5, 11 below the stamp; 6 to 10; 11 at the stamp.
-pub fn ruled(rec: Record, delays: Delays, read: Read, stamp: u32) -> Ruling
-    ensures { λ r. ⌜ Ruled (clocksOf delays) (lentOf rec) (readOf read) stamp r ⌝ }
+// What these pins are to the part that they come to.
+pub fn read_for(rec: Record, whose: Whose, pins: u32) -> Read
+    ensures { λ r. ⌜ readOf r ≡ readOn (lentOf rec) (whoseOf whose) pins ⌝ }
 {
-    let ledger = rec.share.ledger;
+    let share = bank::own(rec, whose);
+    let ledger = share.ledger;
     let level = ledger.level;
-    let effect = account::effect_of(read, rec.share.counter, level);
-    let account = account::account_at(rec.card, rec.last, ledger, stamp, effect);
-    let opening = account.opening;
-    let here = account.here;
-    let there = account.ledger;
-    let then = or_else(judged(rec, delays, read, stamp), here);
+    pins::read_pins(rec.card.sleeps, rec.card.paired, level, pins)
+}
+
+// Of what the account tells, 13, 5, 11 below the stamp; 6 to 10; 11 at the stamp.
+pub fn ruled(
+    card: Card,
+    last: Once,
+    share: Share,
+    theirs: Bus,
+    delays: Delays,
+    read: Read,
+    stamp: u32,
+    told: ledger::Answer,
+) -> Answer
+    ensures { λ r. ⌜ refusalOf r ≡ ruledRefusal (cardOf card) (lastOf last) (clocksOf delays) (shareOf share) (busLook theirs) (readOf read) stamp (paid.refusalOf told) ⌝ }
+{
+    let opening = account::opening(account::rises(last, stamp), told, stamp);
+    let here = account::as_told(told);
+    let then = or_else(judged(card, share, theirs, delays, read, stamp), here);
+    or_else(opening, then)
+}
+
+// An entry of this part, by the ledgers of both.
+pub fn rule_on(rec: Record, delays: Delays, whose: Whose, read: Read, stamp: u32) -> Ruling
+    ensures { λ r. ⌜ Ruled (clocksOf delays) (lentOf rec) (whoseOf whose) (readOf read) stamp r ⌝ }
+{
+    let share = bank::own(rec, whose);
+    let ledger = share.ledger;
+    let level = ledger.level;
+    let effect = account::effect_of(read, share.counter, level);
+    let paid = bank::entered(bank::ledgers_of(rec), rec.card, whose, stamp, effect);
+    let told = paid.answer;
+    let there = paid.ledgers;
+    let theirs = bank::theirs(rec, whose);
     Ruling {
-        answer: or_else(opening, then),
-        ledger: there,
+        answer: ruled(rec.card, rec.last, share, theirs, delays, read, stamp, told),
+        ledgers: there,
     }
 }
 
@@ -82,17 +124,18 @@ fn told(rec: Record, answer: Answer) -> Stepped
 }
 
 // The record changes where the entry is taken, and only there.
-fn settled(rec: Record, stamp: u32, read: Read, ruling: Ruling) -> Stepped
-    ensures { λ r. ⌜ Settled rec stamp (readOf read) ruling r ⌝ }
+fn settled(rec: Record, stamp: u32, whose: Whose, read: Read, ruling: Ruling) -> Stepped
+    ensures { λ r. ⌜ Settled rec stamp (whoseOf whose) (readOf read) ruling r ⌝ }
 {
     let answer = ruling.answer;
     if taken(answer) {
         let next = bank::after(
             rec,
             stamp,
+            whose,
             pins::recorded(read),
             pins::move_of(read),
-            ruling.ledger,
+            ruling.ledgers,
         );
         return told(next, Answer::Taken);
     }
@@ -106,9 +149,8 @@ pub fn step(rec: Record, stamp: u32, pins: u32) -> Stepped
     if !bank::good(rec) {
         return told(rec, Answer::BadRecord);
     }
-    let ledger = rec.share.ledger;
-    let level = ledger.level;
-    let read = pins::read_pins(rec.card.sleeps, level, pins);
-    let ruling = ruled(rec, card::delays_of(rec.card), read, stamp);
-    settled(rec, stamp, read, ruling)
+    let whose = pins::whose_pins(rec.card.paired, pins);
+    let read = read_for(rec, whose, pins);
+    let ruling = rule_on(rec, card::delays_of(rec.card), whose, read, stamp);
+    settled(rec, stamp, whose, read, ruling)
 }

@@ -1,4 +1,4 @@
-// The pins, the bank state, what is permitted at the level, and the value: 6, 7, 8, 16, 9.
+// The pins, both CS_n, the bank state, what is permitted at the level, and the value: 6, 24, 7, 8, 16, 9.
 ghost use mathlib.Core.Path.{_≡_};
 ghost use mathlib.Core.Bool.{false};
 ghost use lib.ListN.{getD};
@@ -95,5 +95,6 @@ pub fn reading(card: Card, opened: [bool; 8], counter: u8, read: Read) -> Answer
         Read::Moved(_) => command_refused(card, opened, counter, pins::judged(read)),
         Read::Asleep => Answer::Taken,
         Read::Barred => Answer::Barred,
+        Read::Clash => Answer::Clash,
     }
 }

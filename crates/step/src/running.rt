@@ -4,27 +4,27 @@ ghost use mathlib.Core.Bool.{_&&_};
 ghost use Prim.Native.Nat.{_-_, _/_, _≤_};
 ghost use lib.Dec.{ltb};
 ghost use Rattle.step.specs.Ready.{standsOf};
-ghost use Rattle.step.specs.Runs.{ran};
+ghost use Rattle.step.specs.Single.{gone};
 ghost use Rattle.step.specs.Quick.{quickOf, nowOf, EndArgs};
-use crate::Ran;
 use crate::cycles::Lane;
 use crate::cycles::ready;
 use crate::kinds::ap_on;
 use crate::kinds::bank_on;
 use crate::kinds::kind_on;
+use crate::single::Gone;
+use crate::single::Single;
 use crate::waits::waits_of;
 use bank::Banks;
 use bank::Bus;
 use bank::Four;
 use bank::Noted;
 use bank::Once;
-use bank::Record;
 use bank::Share;
 use card::Delays;
 use pins::Front;
 
 // Whether it may begin: the part is awake, and the ledger stands at the last entry, before its deadline, and has skipped no more cycles than there were.
-fn stands(rec: Record, end: u64) -> bool
+fn stands(rec: Single, end: u64) -> bool
     ensures { λ r. ⌜ r ≡ (standsOf rec && ltb (rec .last .at) end) ⌝ }
 {
     let ledger = rec.share.ledger;
@@ -45,25 +45,25 @@ fn passes(front: Front, last: u32, end: u64, ready: bool) -> bool
 
 // The record put together again, its ledger moved on to the last entry.
 fn ended(
-    rec: Record,
+    rec: Single,
     banks: Banks,
     bus: Bus,
     four: Four,
     last: u32,
     used: usize,
     nops: usize,
-) -> Ran
+) -> Gone
     requires { ⌜ EndArgs rec last ⌝ }
     requires { ⌜ nops ≤ used / 10 ⌝ }
-    ensures { λ r. ⌜ r ≡ ran (nowOf rec banks bus four last) used (used / 10 - nops) 0 ⌝ }
+    ensures { λ r. ⌜ r ≡ gone (nowOf rec banks bus four last) used (used / 10 - nops) 0 ⌝ }
 {
     let card = rec.card;
     let latest = rec.share.latest;
     let moves = rec.share.moves;
     let moved = ledger::moved(rec.share.ledger, card, last);
     let there = moved.ledger;
-    Ran {
-        rec: Record {
+    Gone {
+        rec: Single {
             card: card,
             last: Once {
                 seen: true,
@@ -87,12 +87,12 @@ fn ended(
 }
 
 // At most so many entries, up to the first that the quick test does not clear. The loop changes each part where it lies: a function for a part would copy it.
-pub fn quick_run(rec: Record, delays: Delays, bytes: &[u8], most: usize) -> Ran
+pub fn quick_run(rec: Single, delays: Delays, bytes: &[u8], most: usize) -> Gone
     ensures { λ r. ⌜ r ≡ quickOf most delays rec (now (bytes .entry)) ⌝ }
 {
     let end = ledger::deadline(rec.share.ledger, rec.card);
     if !stands(rec, end) {
-        return Ran {
+        return Gone {
             rec: rec,
             used: 0,
             commands: 0,

@@ -1,57 +1,31 @@
-// A run of entries: as many as the quick run takes, then one by the table, and so on.
+// A run over a record of one part: as many entries as the quick run takes, then one by the table, and so on; and a run over any record.
 ghost use mathlib.Core.Path.{_≡_};
-ghost use mathlib.Core.Bool.{cond};
 ghost use lib.ListN.{drop};
-ghost use Rattle.rules.specs.Commands.{NOP, is};
-ghost use Rattle.rules.specs.Past.{isCounted};
-ghost use Rattle.pins.specs.Values.{commandOf};
-ghost use Rattle.step.specs.Runs.{ran, behind, runOf};
-ghost use Rattle.step.specs.Parts.{Prepared, Fitting, SoFar, Turned};
+ghost use Rattle.step.specs.Runs.{runOf};
+ghost use Rattle.step.specs.Single.{goneBehind, Ready, FitGone, SoFar, Turned, RunsTo};
 use crate::Ran;
-use crate::account::counts;
+use crate::account::effect_of;
+use crate::counts::commands_by;
+use crate::counts::refreshes_by;
 use crate::offering::ruled;
 use crate::offering::taken;
+use crate::pairs::nothing;
+use crate::pairs::pair_run;
 use crate::running::quick_run;
+use crate::single::Gone;
+use crate::single::Single;
+use crate::single::no_way;
+use crate::single::ran_with;
+use crate::single::single_of;
 use bank::Record;
 use card::Delays;
-use pins::Command;
 
-// All but NOP.
-fn commands_by(command: Command) -> u64
-    ensures { λ r. ⌜ r ≡ cond (is NOP (commandOf command)) 0 1 ⌝ }
-{
-    match command {
-        Command::Nop => 0,
-        _ => 1,
-    }
-}
-
-fn refreshes_by(command: Command, counter: u8) -> u64
-    ensures { λ r. ⌜ r ≡ cond (isCounted (commandOf command) counter) 1 0 ⌝ }
-{
-    if counts(command, counter) {
-        return 1;
-    }
-    0
-}
-
-fn nothing(rec: Record) -> Ran
-    ensures { λ r. ⌜ r ≡ ran rec 0 0 0 ⌝ }
-{
-    Ran {
-        rec: rec,
-        used: 0,
-        commands: 0,
-        refreshes: 0,
-    }
-}
-
-fn joined(first: Ran, then: Ran) -> Ran
-    requires { ⌜ Fitting first then ⌝ }
-    ensures { λ r. ⌜ r ≡ behind (first .used) (first .commands) (first .refreshes) then ⌝ }
+fn joined(first: Gone, then: Gone) -> Gone
+    requires { ⌜ FitGone first then ⌝ }
+    ensures { λ r. ⌜ r ≡ goneBehind (first .used) (first .commands) (first .refreshes) then ⌝ }
 {
     let rec = then.rec;
-    Ran {
+    Gone {
         rec: rec,
         used: first.used + then.used,
         commands: first.commands + then.commands,
@@ -60,26 +34,45 @@ fn joined(first: Ran, then: Ran) -> Ran
 }
 
 // One entry by the table.
-fn by_table(rec: Record, delays: Delays, bytes: &[u8], at: usize) -> Ran
-    requires { ⌜ Prepared rec delays ⌝ }
-    ensures { λ r. ⌜ r ≡ runOf 1 rec (drop at (now (bytes .entry))) ⌝ }
+fn by_table(rec: Single, delays: Delays, bytes: &[u8], at: usize) -> Gone
+    requires { ⌜ Ready rec delays ⌝ }
+    ensures { λ r. ⌜ RunsTo 1 rec (drop at (now (bytes .entry))) r ⌝ }
 {
     let front = pins::entry_at(bytes, at);
     if !front.whole {
-        return nothing(rec);
+        return no_way(rec);
     }
     let ledger = rec.share.ledger;
     let level = ledger.level;
-    let read = pins::read_pins(rec.card.sleeps, level, front.pins);
-    let ruling = ruled(rec, delays, read, front.stamp);
-    let answer = ruling.answer;
+    let read = pins::read_pins(rec.card.sleeps, false, level, front.pins);
+    let effect = effect_of(read, rec.share.counter, level);
+    let after = ledger::entered(ledger, rec.card, front.stamp, effect);
+    let told = after.answer;
+    let answer = ruled(
+        rec.card,
+        rec.last,
+        rec.share,
+        bank::idle_bus(),
+        delays,
+        read,
+        front.stamp,
+        told,
+    );
     if !taken(answer) {
-        return nothing(rec);
+        return no_way(rec);
     }
     let command = pins::recorded(read);
     let moved = pins::move_of(read);
-    Ran {
-        rec: bank::after(rec, front.stamp, command, moved, ruling.ledger),
+    let there = after.ledger;
+    let card = rec.card;
+    let last = bank::once_at(front.stamp);
+    let share = bank::share_after(rec.share, front.stamp, command, moved, there);
+    Gone {
+        rec: Single {
+            card: card,
+            last: last,
+            share: share,
+        },
         used: 10,
         commands: commands_by(command),
         refreshes: refreshes_by(command, rec.share.counter),
@@ -87,7 +80,7 @@ fn by_table(rec: Record, delays: Delays, bytes: &[u8], at: usize) -> Ran
 }
 
 // The quick run, and where it stops one entry by the table.
-fn turn(part: Ran, delays: Delays, bytes: &[u8], most: usize) -> Ran
+fn turn(part: Gone, delays: Delays, bytes: &[u8], most: usize) -> Gone
     requires { ⌜ SoFar delays (now bytes) most part ⌝ }
     ensures { λ r. ⌜ Turned delays (now (bytes .entry)) most part r ⌝ }
 {
@@ -102,11 +95,11 @@ fn turn(part: Ran, delays: Delays, bytes: &[u8], most: usize) -> Ran
 }
 
 // Turn by turn.
-fn sound_run(rec: Record, delays: Delays, bytes: &[u8], most: usize) -> Ran
-    requires { ⌜ Prepared rec delays ⌝ }
-    ensures { λ r. ⌜ r ≡ runOf most rec (now (bytes .entry)) ⌝ }
+fn single_run(rec: Single, delays: Delays, bytes: &[u8], most: usize) -> Gone
+    requires { ⌜ Ready rec delays ⌝ }
+    ensures { λ r. ⌜ RunsTo most rec (now (bytes .entry)) r ⌝ }
 {
-    let mut part = nothing(rec);
+    let mut part = no_way(rec);
     loop {
         let next = turn(part, delays, bytes, most);
         if next.used == part.used {
@@ -120,8 +113,13 @@ fn sound_run(rec: Record, delays: Delays, bytes: &[u8], most: usize) -> Ran
 pub fn run(rec: Record, bytes: &[u8], most: usize) -> Ran
     ensures { λ r. ⌜ r ≡ runOf most rec (now (bytes .entry)) ⌝ }
 {
-    if bank::good(rec) {
-        return sound_run(rec, card::delays_of(rec.card), bytes, most);
+    if !bank::good(rec) {
+        return nothing(rec);
     }
-    nothing(rec)
+    let delays = card::delays_of(rec.card);
+    if rec.card.paired {
+        return pair_run(rec, delays, bytes, most);
+    }
+    let way = single_run(single_of(rec), delays, bytes, most);
+    ran_with(way, rec.second)
 }

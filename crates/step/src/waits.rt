@@ -2,9 +2,9 @@
 ghost use mathlib.Core.Path.{_≡_};
 ghost use Prim.Native.Nat.{_+_, max};
 ghost use Rattle.step.specs.Ready.{topOf, restedOf, wokenOf, wholeOf, waitsOf};
+use crate::single::Single;
 use bank::Latest;
 use bank::Moves;
-use bank::Record;
 use card::Delays;
 use card::greater;
 
@@ -58,13 +58,13 @@ fn rested(latest: Latest, d: Delays) -> u64
     )
 }
 
-fn whole(rec: Record, d: Delays) -> u64
+fn whole(rec: Single, d: Delays) -> u64
     ensures { λ r. ⌜ r ≡ wholeOf d rec ⌝ }
 {
     greater(rested(rec.share.latest, d), woken(rec.share.moves, d))
 }
 
-pub fn waits_of(rec: Record, d: Delays) -> Waits
+pub fn waits_of(rec: Single, d: Delays) -> Waits
     ensures { λ r. ⌜ r ≡ waitsOf d rec ⌝ }
 {
     let mr2 = rec.share.mr2;

@@ -13,6 +13,7 @@ fn usage() {
         b"usage: trace [-q] < FILE\n\
         Judges an LPDDR3 command trace. Prints each accepted entry as its cycle, name and bank,\n\
         then \"accepted COMMANDS REFRESHES LEDGER\" or \"refused NUMBER RULE OFFSET CYCLE\".\n\
+        Of two parts on one bus each entry ends in its part, and there is a LEDGER for each.\n\
         \x20 -q      print the last line only\n\
         \x20 --help  print this text\n",
     );

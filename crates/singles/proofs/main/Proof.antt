@@ -4,10 +4,10 @@ use Rattle.singles.proofs.main.Statement.{statement}
 use Rattle.singles.proofs.main.Tie as tie
 
 abbrev Inv-loop : tie.InvT-loop
-Inv-loop fresh rec₀ case₀ i₀ rec case i = i ≤ 1667
+Inv-loop fresh rec₀ case₀ part₀ i₀ rec case part i = i ≤ 2727
 
 abbrev μ-loop : tie.MeasureT-loop
-μ-loop fresh rec₀ case₀ i₀ rec case i = 1667 - i
+μ-loop fresh rec₀ case₀ part₀ i₀ rec case part i = 2727 - i
 
 pub main-spec : {M : Type 1} → statement M
 main-spec =
@@ -24,6 +24,5 @@ main-spec =
     (λ c. search needs)
     (λ c. search needs)
     (λ c. search needs)
-    (λ c κs. search needs)
     (λ c κs. search needs)
     (λ c. search needs))

@@ -1,4 +1,4 @@
--- A fresh share beside the card.
+-- Two fresh shares beside the card.
 use borrow.Author.Needs.{needs}
 use Rattle.bank.specs.Values.{never, freshOf}
 use Rattle.bank.proofs.fresh.fresh_record.Statement.{statement}
@@ -6,7 +6,7 @@ use Rattle.bank.proofs.fresh.fresh_record.Tie as tie
 
 returns : tie.Need-returns
 unfolding never freshOf
-returns c = rw (c .fresh-share .ensures)
+returns c = rw (c .before .fresh-share .ensures, c .fresh-share2 .ensures)
 
 pub fresh-record-spec : {M : Type 1} → statement M
-fresh-record-spec = tie.close (tie.spec (λ c κs. search needs) returns)
+fresh-record-spec = tie.close (tie.spec (λ c κs. search needs) (λ c κs. search needs) returns)

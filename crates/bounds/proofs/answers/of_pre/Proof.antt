@@ -9,8 +9,8 @@ use Rattle.bounds.proofs.answers.of_pre.Tie as tie
 returns : tie.Need-returns
 unfolding each
 returns c =
-    let a = c .before .before .before .before .args in
-    rw (c .unless-later .ensures, c .before .stamp-at .ensures) (first-unless (getD (a .pre .seen) (a .bank) false) (outweighed (getD (a .pre .seen) (a .bank) false) (a .prea .seen) (getD (a .pre .at) (a .bank) 0) (a .prea .at)) (getD (a .pre .at) (a .bank) 0))
+    let a = c .before .before .args in
+    rw (c .unless-later .ensures, c .before .each-at .ensures) (first-unless (getD (a .pre .seen) (a .bank) false) (outweighed (getD (a .pre .seen) (a .bank) false) (a .prea .seen) (getD (a .pre .at) (a .bank) 0) (a .prea .at)) (getD (a .pre .at) (a .bank) 0))
 
 pub of-pre-spec : {M : Type 1} → statement M
 of-pre-spec = tie.close (tie.spec (λ c κs. search needs) (λ c κs. search needs) returns)

@@ -12,10 +12,10 @@ use Rattle.bounds.proofs.folds.broken.Statement.{statement}
 use Rattle.bounds.proofs.folds.broken.Tie as tie
 
 abbrev Inv-loop : tie.InvT-loop
-Inv-loop stamp bounds t i₀ i = (i ≤ 22) × (brokenFrom 0 bounds stamp ≡ brokenFrom i (drop i bounds) stamp)
+Inv-loop stamp bounds t i₀ i = (i ≤ 25) × (brokenFrom 0 bounds stamp ≡ brokenFrom i (drop i bounds) stamp)
 
 abbrev μ-loop : tie.MeasureT-loop
-μ-loop stamp bounds t i₀ i = 22 - i
+μ-loop stamp bounds t i₀ i = 25 - i
 
 loop-holds : tie.Need-loop-holds Inv-loop μ-loop
 loop-holds c = (omega arith, refl)

@@ -10,10 +10,10 @@ use Rattle.bounds.proofs.folds.greatest.Statement.{statement}
 use Rattle.bounds.proofs.folds.greatest.Tie as tie
 
 abbrev Inv-loop : tie.InvT-loop
-Inv-loop bounds best₀ i₀ best i = (i ≤ 22) × (greatestOf bounds ≡ max best (greatestOf (drop i bounds)))
+Inv-loop bounds best₀ i₀ best i = (i ≤ 25) × (greatestOf bounds ≡ max best (greatestOf (drop i bounds)))
 
 abbrev μ-loop : tie.MeasureT-loop
-μ-loop bounds best₀ i₀ best i = 22 - i
+μ-loop bounds best₀ i₀ best i = 25 - i
 
 loop-holds : tie.Need-loop-holds Inv-loop μ-loop
 loop-holds c = (omega arith, omega arith)

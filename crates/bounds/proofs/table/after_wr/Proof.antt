@@ -1,13 +1,17 @@
 use borrow.Author.Needs.{needs}
+use Rattle.rules.specs.Levels.{stays}
+use Rattle.bank.specs.Values.{idleBus}
+use Rattle.bounds.specs.Parts.{boundOf}
 use Rattle.bounds.proofs.Ruled.{after-wr-are}
 use Rattle.bounds.proofs.table.after_wr.Statement.{statement}
 use Rattle.bounds.proofs.table.after_wr.Tie as tie
 
 returns : tie.Need-returns
+unfolding boundOf
 returns c =
     let a = c .before .before .before .before .before .before .args in
     rw (
-      after-wr-are (a .share) (a .d) (a .command),
+      after-wr-are (a .share) (a .d) (a .command) idleBus stays,
       c .since2 .ensures,
       c .before .wide2 .ensures .0,
       c .before .before .since .ensures,

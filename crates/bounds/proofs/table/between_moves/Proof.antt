@@ -1,15 +1,18 @@
 use borrow.Author.Needs.{needs}
 use Rattle.pins.specs.Values.{movedOf}
+use Rattle.bank.specs.Values.{idleBus}
+use Rattle.bounds.specs.Parts.{boundOf}
 use Rattle.bounds.proofs.Ruled.{between-moves-is}
 use Rattle.bounds.proofs.table.between_moves.Statement.{statement}
 use Rattle.bounds.proofs.table.between_moves.Tie as tie
 
 returns : tie.Need-returns
+unfolding boundOf
 returns c =
     let s = c .before .before .before .before .before in
     let a = s .before .before .before .before .args in
     rw (
-      between-moves-is (a .share) (a .d) (a .command) (movedOf (a .moved)),
+      between-moves-is (a .share) (a .d) (a .command) idleBus (movedOf (a .moved)),
       c .greater2 .ensures,
       c .before .greater .ensures,
       c .before .before .plain3 .ensures,

@@ -6,9 +6,9 @@ use Rattle.bounds.proofs.table.bounds.Tie as tie
 
 returns : tie.Need-returns
 returns c =
-    let s = c .before .before .before in
+    let s = c .before .before .before .before in
     let a = s .before .before .before .before .before .before .before .before .before .before .args in
-    gathered (a .share) (a .d) (a .command) (movedOf (a .moved)) _ _ _ _ _ _ _ _ _ _ _ _ _
+    gathered (a .share) (a .d) (a .command) (a .theirs) (movedOf (a .moved)) _ _ _ _ _ _ _ _ _ _ _ _ _ _
     (s .before .before .before .before .before .before .before .before .before .all-banks .ensures)
     (s .before .before .before .before .before .before .before .before .after-precharge .ensures)
     (s .before .before .before .before .before .before .before .after-act .ensures)
@@ -19,9 +19,10 @@ returns c =
     (s .before .before .other-banks .ensures)
     (s .before .four-before .ensures)
     (s .bursts .ensures)
-    (c .before .before .after-exit .ensures)
-    (c .before .between-moves .ensures)
-    (c .in-self-refresh .ensures)
+    (c .before .before .before .after-exit .ensures)
+    (c .before .before .between-moves .ensures)
+    (c .before .in-self-refresh .ensures)
+    (c .across .ensures)
 
 pub bounds-spec : {M : Type 1} → statement M
 bounds-spec =
@@ -40,6 +41,10 @@ bounds-spec =
     (λ c κs. search needs)
     (λ c κs. search needs)
     (λ c κs. search needs)
+    (λ c κs. search needs)
+    (λ c. search needs)
+    (λ c. search needs)
+    (λ c. search needs)
     (λ c. search needs)
     (λ c. search needs)
     (λ c. search needs)

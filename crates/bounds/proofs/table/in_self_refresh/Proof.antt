@@ -1,15 +1,17 @@
 use borrow.Author.Needs.{needs}
 use Rattle.pins.specs.Values.{levelOf, movedOf}
+use Rattle.bank.specs.Values.{idleBus}
+use Rattle.bounds.specs.Parts.{boundOf}
 use Rattle.bounds.proofs.Ruled.{in-self-refresh-is}
 use Rattle.bounds.proofs.table.in_self_refresh.Statement.{statement}
 use Rattle.bounds.proofs.table.in_self_refresh.Tie as tie
 
 returns : tie.Need-returns
-unfolding levelOf
+unfolding levelOf boundOf
 returns c =
     let a = c .before .before .before .args in
     rw (
-      in-self-refresh-is (a .share) (a .d) (a .command) (movedOf (a .moved)),
+      in-self-refresh-is (a .share) (a .d) (a .command) idleBus (movedOf (a .moved)),
       c .plain .ensures,
       c .before .own-if .ensures,
       c .before .before .rises-from .ensures,

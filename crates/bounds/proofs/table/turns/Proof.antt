@@ -1,15 +1,18 @@
 use borrow.Author.Needs.{needs}
 use Rattle.rules.specs.Commands.{code, is}
+use Rattle.rules.specs.Levels.{stays}
+use Rattle.bank.specs.Values.{idleBus}
+use Rattle.bounds.specs.Parts.{boundOf}
 use Rattle.bounds.proofs.Ruled.{turns-are}
 use Rattle.bounds.proofs.table.turns.Statement.{statement}
 use Rattle.bounds.proofs.table.turns.Tie as tie
 
 returns : tie.Need-returns
-unfolding is code
+unfolding is code boundOf
 returns c =
     let a = c .before .before .before .before .before .before .before .args in
     rw (
-      turns-are (a .share) (a .d) (a .command),
+      turns-are (a .share) (a .d) (a .command) idleBus stays,
       c .since2 .ensures,
       c .before .wide2 .ensures .0,
       c .before .before .since .ensures,

@@ -1,3 +1,5 @@
+use native.Mathlib.Omega.{arith}
+use borrow.Author.Tests.{le-leb}
 use borrow.Author.Needs.{needs}
 use Rattle.rules.specs.Ranges.{cardGood}
 use Rattle.card.specs.Values.{cardOf}
@@ -8,12 +10,14 @@ use Rattle.card.proofs.ranges.in_range.Tie as tie
 returns : tie.Need-returns
 unfolding cardGood cardOf good
 returns c =
+    let s = c .before .before in
     rw (
-      c .before .before .before .before .before .value-good .ensures,
-      c .before .before .before .before .mr2-good .ensures,
-      c .before .before .value-good2 .ensures,
-      c .before .value-good3 .ensures,
-      c .timings-good .ensures,
+      s .before .before .before .before .value-good .ensures,
+      s .before .before .before .mr2-good .ensures,
+      s .before .value-good2 .ensures,
+      s .value-good3 .ensures,
+      c .before .timings-good .ensures,
+      le-leb (s .before .before .before .before .before .args .card .gap) 255 (omega (arith, c .struct-known2 .given .1 .1 .1 .1 .1 .1 .1 .1 .0)),
     )
 
 pub in-range-spec : {M : Type 1} → statement M

@@ -31,10 +31,20 @@ returns-5 c = c .within3 .ensures ∙ rw (c .before .if5 .taken)
 
 returns-6 : tie.Need-returns-6
 unfolding good
-returns-6 c =
-    let s = c .before in
+returns-6 c = rw (c .if6 .taken)
+
+returns-7 : tie.Need-returns-7
+unfolding good
+returns-7 c =
+    let s = c .before .before in
     c .timing-good .ensures
-    ∙ rw (ne-eqb _ _ (s .before .before .before .if1 .left), ne-eqb _ _ (s .before .before .if2 .left), ne-eqb _ _ (s .before .if4 .left), ne-eqb _ _ (s .if5 .left))
+    ∙ rw (
+      ne-eqb _ _ (s .before .before .before .if1 .left),
+      ne-eqb _ _ (s .before .before .if2 .left),
+      ne-eqb _ _ (s .before .if4 .left),
+      ne-eqb _ _ (s .if5 .left),
+      ne-eqb _ _ (c .before .if6 .left),
+    )
 
 pub value-good-spec : {M : Type 1} → statement M
 value-good-spec =
@@ -50,5 +60,6 @@ value-good-spec =
     returns-4
     (λ c κs. search needs)
     returns-5
+    returns-6
     (λ c κs. search needs)
-    returns-6)
+    returns-7)

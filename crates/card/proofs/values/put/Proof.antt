@@ -1,53 +1,72 @@
-use Prim.Native.Nat.{ℕ, _≤_}
-use mathlib.Core.Path.{_≡_}
-use mathlib.Core.Bool.{false}
+use mathlib.Core.Bool.{not}
 use native.Mathlib.Omega.{arith}
-use lib.Dec.{leb}
-use borrow.Author.Tests.{ne-eqb, lt-leb}
+use borrow.Author.Tests.{ne-eqb}
 use borrow.Author.Needs.{needs}
+use Rattle.rules.specs.Ranges.{within}
 use Rattle.card.specs.Reading.{good, put}
-use Rattle.card.proofs.Numbers.{mr2-byte, groups-short}
+use Rattle.card.proofs.Lengths.{is-within, a-timing}
+use Rattle.card.proofs.Numbers.{mr2-byte, groups-short, gap-byte}
 use Rattle.card.proofs.values.put.Statement.{statement}
 use Rattle.card.proofs.values.put.Tie as tie
 
-past-four : (t : ℕ) → 1 ≤ t → (t ≡ 1 → ⊥) → (t ≡ 2 → ⊥) → (t ≡ 3 → ⊥) → (t ≡ 4 → ⊥) → leb t 4 ≡ false
-past-four t h a b c d = lt-leb t 4 (omega arith)
-
 returns : tie.Need-returns
-unfolding put
+unfolding put within
 returns c = rw (c .if1 .taken)
 
 cast-next : tie.Need-cast-next
 unfolding good
-cast-next c = let a = c .before .before in omega (arith, mr2-byte _ _ (rw (c .if2 .taken) at (a .pre .2)))
+cast-next c = let a = c .before .before in omega (arith, mr2-byte _ _ (rw (c .if2 .taken) at (a .pre .1)))
 
 returns-2 : tie.Need-returns-2
-unfolding put
+unfolding put within
 returns-2 c = rw (c .if2 .taken)
 
 cast-next-2 : tie.Need-cast-next-2
 unfolding good
-cast-next-2 c = let a = c .before .before .before in omega (arith, groups-short _ (rw (c .if3 .taken) at (a .pre .2)))
+cast-next-2 c = let a = c .before .before .before in omega (arith, groups-short _ (rw (c .if3 .taken) at (a .pre .1)))
 
 returns-3 : tie.Need-returns-3
-unfolding put
+unfolding put within
 returns-3 c = rw (c .if3 .taken)
 
 returns-4 : tie.Need-returns-4
-unfolding put
+unfolding put within
 returns-4 c = rw (c .if4 .taken)
 
+cast-next-3 : tie.Need-cast-next-3
+unfolding good
+cast-next-3 c =
+    let a = c .before .before .before .before .before in
+    omega (arith, gap-byte (not (a .args .card .sleeps)) (a .args .x) (rw (c .if5 .taken) at (a .pre .1)))
+
 returns-5 : tie.Need-returns-5
+unfolding put within
+returns-5 c = rw (c .if5 .taken)
+
+-- where none of the tests held, the tag is a timing's
+sub-i : tie.Need-sub-i
+sub-i c =
+    let e = c .before .before .before .before in
+    omega (arith, a-timing _ (e .before .pre .0) (e .if1 .left) (c .before .before .before .if2 .left) (c .before .before .if3 .left) (c .before .if4 .left) (c .if5 .left))
+
+element-write : tie.Need-element-write-next
+element-write c =
+    let e = c .before .before .before .before in
+    omega (arith, a-timing _ (e .before .pre .0) (e .if1 .left) (c .before .before .before .if2 .left) (c .before .before .if3 .left) (c .before .if4 .left) (c .if5 .left))
+
+returns-6 : tie.Need-returns-6
 unfolding put
-returns-5 c =
+returns-6 c =
     let e = c .before in
-    let a = e .before .before .before in
+    let a = e .before .before .before .before in
+    let (low, high) = a-timing _ (a .before .pre .0) (a .if1 .left) (e .before .before .before .if2 .left) (e .before .before .if3 .left) (e .before .if4 .left) (e .if5 .left) in
     rw (
       ne-eqb _ _ (a .if1 .left),
-      ne-eqb _ _ (e .before .before .if2 .left),
-      ne-eqb _ _ (e .before .if3 .left),
-      ne-eqb _ _ (e .if4 .left),
-      past-four (a .before .args .tag) (a .before .pre .0) (a .if1 .left) (e .before .before .if2 .left) (e .before .if3 .left) (e .if4 .left),
+      ne-eqb _ _ (e .before .before .before .if2 .left),
+      ne-eqb _ _ (e .before .before .if3 .left),
+      ne-eqb _ _ (e .before .if4 .left),
+      ne-eqb _ _ (e .if5 .left),
+      is-within 5 22 (a .before .args .tag) low high,
     )
 
 pub put-spec : {M : Type 1} → statement M
@@ -60,9 +79,11 @@ put-spec =
     cast-next-2
     returns-3
     returns-4
+    cast-next-3
+    returns-5
+    sub-i
     (λ c. search needs)
     (λ c. search needs)
-    (λ c. search needs)
-    (λ c. search needs)
-    (λ c. search needs)
-    returns-5)
+    element-write
+    element-write
+    returns-6)

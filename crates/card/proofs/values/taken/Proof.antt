@@ -1,12 +1,11 @@
 use mathlib.Core.Path.{sym, _∙_}
-use native.Mathlib.Omega.{arith}
 use borrow.Author.Needs.{needs}
 use Rattle.card.specs.Reading.{taken}
 use Rattle.card.proofs.values.taken.Statement.{statement}
 use Rattle.card.proofs.values.taken.Tie as tie
 
 put-requires : tie.Need-put-requires
-put-requires c κs = let a = c .before in (omega arith, omega arith, sym (a .value-good .ensures) ∙ c .if1 .taken)
+put-requires c κs = let a = c .before in (a .before .pre, sym (a .value-good .ensures) ∙ c .if1 .taken)
 
 returns : tie.Need-returns
 unfolding taken

@@ -1,11 +1,11 @@
-use Rattle.chunks.specs.Took.{shareClosed, recordClosed}
+use Rattle.chunks.specs.Took.{recordClosed}
 use Rattle.chunks.specs.Parts.{endOn}
 use borrow.Author.Needs.{needs}
 use Rattle.chunks.proofs.fields.end_on.Statement.{statement}
 use Rattle.chunks.proofs.fields.end_on.Tie as tie
 
 returns : tie.Need-returns
-unfolding endOn recordClosed shareClosed
+unfolding endOn recordClosed
 returns c = rw (c .further .ensures)
 
 pub end-on-spec : {M : Type 1} → statement M

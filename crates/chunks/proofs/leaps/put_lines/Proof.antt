@@ -9,7 +9,7 @@ returns c = lines-quiet _ _ _ _ _ (c .if1 .taken)
 
 returns-2 : tie.Need-returns-2
 returns-2 c =
-    let b = c .before .before .before .before .before .before in
+    let b = c .before .before .before .before .before in
     let p = b .before .before .before .pre in
     lines-all _ _ _ _ _ _ _ (b .if1 .left) (p .0) (p .1 (b .if1 .left)) (c .before .before .entry-lines .ensures)
 

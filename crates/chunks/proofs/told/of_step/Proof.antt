@@ -42,12 +42,17 @@ returns-9 c = rw (c .enum-told8 .given .1)
 
 returns-10 : tie.Need-returns-10
 unfolding toldOf stepped.refusalOf
-returns-10 c = rw (c .before .answer2 .given .1)
+returns-10 c = rw (c .enum-told9 .given .1)
+
+returns-11 : tie.Need-returns-11
+unfolding toldOf stepped.refusalOf
+returns-11 c = rw (c .before .answer2 .given .1)
 
 pub of-step-spec : {M : Type 1} → statement M
 of-step-spec =
     tie.close
     (tie.spec
+    (λ c. search needs)
     (λ c. search needs)
     (λ c. search needs)
     (λ c. search needs)
@@ -67,4 +72,5 @@ of-step-spec =
     returns-7
     returns-8
     returns-9
-    returns-10)
+    returns-10
+    returns-11)

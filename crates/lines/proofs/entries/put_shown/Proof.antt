@@ -1,6 +1,6 @@
 use native.Mathlib.Omega.{arith}
 use borrow.Author.Needs.{needs}
-use Rattle.lines.specs.Names.{shownPart}
+use Rattle.lines.specs.Names.{shownBank}
 use Rattle.lines.proofs.Decimals.{short}
 use Rattle.lines.proofs.entries.put_shown.Statement.{statement}
 use Rattle.lines.proofs.entries.put_shown.Tie as tie
@@ -27,7 +27,7 @@ same-length : tie.Need-same-length
 same-length c = search needs
 
 returns : tie.Need-returns
-unfolding shownPart
+unfolding shownBank
 returns c =
     let b = c .before .before .before .before .before .shown .given in
     (rw (b .1) (c .before .before .put-next .ensures), omega (arith, short 2 (b .0 .0) (omega arith)))
@@ -36,7 +36,7 @@ same-length-2 : tie.Need-same-length-2
 same-length-2 c = search needs
 
 returns-2 : tie.Need-returns-2
-unfolding shownPart
+unfolding shownBank
 returns-2 c = (rw (c .before .before .before .before .before .enum-told .given .1) (c .before .before .put-text .ensures), omega arith)
 
 pub put-shown-spec : {M : Type 1} → statement M

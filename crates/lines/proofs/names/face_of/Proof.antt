@@ -6,7 +6,7 @@ use Rattle.rules.specs.Commands.{code, is, kindOf, carries, bare, bankOf, apOf}
 use Rattle.rules.specs.Past.{bankAt}
 use Rattle.rules.specs.Lines.{nameOf, showsBank}
 use Rattle.pins.specs.Values.{commandOf}
-use Rattle.lines.specs.Names.{shownPart}
+use Rattle.lines.specs.Names.{shownBank}
 use Rattle.lines.proofs.names.face_of.Statement.{statement}
 use Rattle.lines.proofs.names.face_of.Tie as tie
 
@@ -32,14 +32,14 @@ enum-known-command-2 : tie.Need-enum-known-command-2
 enum-known-command-2 c = search needs
 
 returns : tie.Need-returns
-unfolding shownPart nameOf showsBank bankAt bankOf apOf is code kindOf carries bare commandOf
+unfolding shownBank nameOf showsBank bankAt bankOf apOf is code kindOf carries bare commandOf
 returns c = rw (c .before .before .before .before .command2 .given .1, c .before .before .if1 .taken) (record { fits = omega arith; small = omega arith; name = refl; bank = refl })
 
 enum-known-command-3 : tie.Need-enum-known-command-3
 enum-known-command-3 c = search needs
 
 returns-2 : tie.Need-returns-2
-unfolding shownPart nameOf showsBank bankAt bankOf apOf is code kindOf carries bare commandOf
+unfolding shownBank nameOf showsBank bankAt bankOf apOf is code kindOf carries bare commandOf
 returns-2 c = rw (c .before .before .before .before .command3 .given .1, c .before .before .if2 .taken) (record { fits = omega arith; small = omega arith; name = refl; bank = refl })
 
 enum-known-command-4 : tie.Need-enum-known-command-4
@@ -49,43 +49,43 @@ enum-told-6 : tie.Need-enum-told-6
 enum-told-6 c = search needs
 
 returns-3 : tie.Need-returns-3
-unfolding shownPart nameOf showsBank bankAt bankOf apOf is code kindOf carries bare commandOf
+unfolding shownBank nameOf showsBank bankAt bankOf apOf is code kindOf carries bare commandOf
 returns-3 c = rw (c .before .before .enum-told .given .1) (record { fits = omega arith; small = omega arith; name = refl; bank = refl })
 
 returns-4 : tie.Need-returns-4
-unfolding shownPart nameOf showsBank bankAt bankOf apOf is code kindOf carries bare commandOf
+unfolding shownBank nameOf showsBank bankAt bankOf apOf is code kindOf carries bare commandOf
 returns-4 c = rw (c .before .before .enum-told2 .given .1) (record { fits = omega arith; small = omega arith; name = refl; bank = refl })
 
 returns-5 : tie.Need-returns-5
-unfolding shownPart nameOf showsBank bankAt bankOf apOf is code kindOf carries bare commandOf
+unfolding shownBank nameOf showsBank bankAt bankOf apOf is code kindOf carries bare commandOf
 returns-5 c = rw (c .before .before .enum-told3 .given .1) (record { fits = omega arith; small = omega arith; name = refl; bank = refl })
 
 returns-6 : tie.Need-returns-6
-unfolding shownPart nameOf showsBank bankAt bankOf apOf is code kindOf carries bare commandOf
+unfolding shownBank nameOf showsBank bankAt bankOf apOf is code kindOf carries bare commandOf
 returns-6 c = rw (c .before .before .enum-told4 .given .1) (record { fits = omega arith; small = omega arith; name = refl; bank = refl })
 
 returns-7 : tie.Need-returns-7
-unfolding shownPart nameOf showsBank bankAt bankOf apOf is code kindOf carries bare commandOf
+unfolding shownBank nameOf showsBank bankAt bankOf apOf is code kindOf carries bare commandOf
 returns-7 c = rw (c .before .before .enum-told5 .given .1) (record { fits = omega arith; small = omega arith; name = refl; bank = refl })
 
 returns-8 : tie.Need-returns-8
-unfolding shownPart nameOf showsBank bankAt bankOf apOf is code kindOf carries bare commandOf
+unfolding shownBank nameOf showsBank bankAt bankOf apOf is code kindOf carries bare commandOf
 returns-8 c = rw (c .before .before .before .command .given .1) (record { fits = omega arith; small = omega arith; name = refl; bank = refl })
 
 returns-9 : tie.Need-returns-9
-unfolding shownPart nameOf showsBank bankAt bankOf apOf is code kindOf carries bare commandOf
+unfolding shownBank nameOf showsBank bankAt bankOf apOf is code kindOf carries bare commandOf
 returns-9 c = rw (c .before .before .before .before .command2 .given .1, c .before .before .if1 .left) (record { fits = omega arith; small = omega arith; name = refl; bank = refl })
 
 returns-10 : tie.Need-returns-10
-unfolding shownPart nameOf showsBank bankAt bankOf apOf is code kindOf carries bare commandOf
+unfolding shownBank nameOf showsBank bankAt bankOf apOf is code kindOf carries bare commandOf
 returns-10 c = rw (c .before .before .before .before .command3 .given .1, c .before .before .if2 .left) (record { fits = omega arith; small = omega arith; name = refl; bank = refl })
 
 returns-11 : tie.Need-returns-11
-unfolding shownPart nameOf showsBank bankAt bankOf apOf is code kindOf carries bare commandOf
+unfolding shownBank nameOf showsBank bankAt bankOf apOf is code kindOf carries bare commandOf
 returns-11 c = rw (c .before .before .before .command4 .given .1) (record { fits = omega arith; small = omega arith; name = refl; bank = refl })
 
 returns-12 : tie.Need-returns-12
-unfolding shownPart nameOf showsBank bankAt bankOf apOf is code kindOf carries bare commandOf
+unfolding shownBank nameOf showsBank bankAt bankOf apOf is code kindOf carries bare commandOf
 returns-12 c = rw (c .before .before .enum-told6 .given .1) (record { fits = omega arith; small = omega arith; name = refl; bank = refl })
 
 pub face-of-spec : {M : Type 1} → statement M

@@ -16,14 +16,14 @@ use Rattle.lines.proofs.runs.entry_lines.Statement.{statement}
 use Rattle.lines.proofs.runs.entry_lines.Tie as tie
 
 abbrev Inv-loop : tie.InvT-loop
-Inv-loop out₀ bytes count sleeps counter n pairs next₀ i₀ out next i =
-    Put 0 (linesAt sleeps i (standingOf next₀) bytes) out₀ out (next .at) × (standingOf next ≡ standsAt sleeps i (standingOf next₀) bytes) × (i ≤ n) × (next .at ≤ 24 * i) × LeadGood (next .lead) × (length out ≡ length out₀) × HighGood next
+Inv-loop out₀ bytes count sleeps paired counter second n pairs next₀ i₀ out next i =
+    Put 0 (linesAt sleeps paired i (standingOf next₀) bytes) out₀ out (next .at) × (standingOf next ≡ standsAt sleeps paired i (standingOf next₀) bytes) × (i ≤ n) × (next .at ≤ 24 * i) × LeadGood (next .lead) × (length out ≡ length out₀) × HighGood paired next
 
 abbrev μ-loop : tie.MeasureT-loop
-μ-loop out₀ bytes count sleeps counter n pairs next₀ i₀ out next i = n - i
+μ-loop out₀ bytes count sleeps paired counter second n pairs next₀ i₀ out next i = n - i
 
 loop-holds : tie.Need-loop-holds Inv-loop μ-loop
-loop-holds c = (lines-none _ _ _ _, stands-none _ _ _, omega arith, omega arith, c .lead-of .ensures, refl, level-kept _ _ (c .before .high-of .ensures) .1)
+loop-holds c = (lines-none _ _ _ _ _, stands-none _ _ _ _, omega arith, omega arith, c .lead-of .ensures, refl, level-kept _ _ _ (c .before .high-of .ensures) .1)
 
 mul-at : tie.Need-mul-at Inv-loop μ-loop
 mul-at c = omega arith
@@ -63,7 +63,7 @@ loop-again c =
     let w = l .inv in
     let x = c .before .before .put-entry .ensures in
     let ten : 10 * l .i + 10 - 10 * l .i ≡ 10 = omega arith in
-    let more = lines-next (a .sleeps) (l .i) (standing _ (a .counter)) (a .bytes .now) (f .entry-at .result) (rw ten at (f .entry-at .ensures)) (omega arith) (w .0) (w .1) x in
+    let more = lines-next (a .sleeps) (a .paired) (l .i) (standing _ (a .counter) (a .second)) (a .bytes .now) (f .entry-at .result) (rw ten at (f .entry-at .ensures)) (omega arith) (w .0) (w .1) x in
     (more .0, more .1, omega arith, omega (arith, x .small, w .3), x .lead, omega (arith, w .5), x .high)
 
 same-length : tie.Need-same-length Inv-loop μ-loop
@@ -74,7 +74,7 @@ returns c =
     let w = c .before .loop .inv in
     let a = c .before .before .before .before .before .before .before .before .before .args in
     let e : c .before .loop .i ≡ lineCount (a .count) (length (a .bytes .now)) (length (a .out .now)) = omega (arith, w .2) in
-    let k = level-kept _ (levelOf (a .level)) (c .before .before .before .high-of .ensures) .0 in
+    let k = level-kept (a .paired) _ (levelOf (a .level)) (c .before .before .before .high-of .ensures) .0 in
     rw (e, k) at (lined (w .5) (w .0))
 
 pub entry-lines-spec : {M : Type 1} → statement M

@@ -1,6 +1,7 @@
 -- By its command, or by its parts.
 use Prim.Native.Nat.{_+_, _<_}
 use mathlib.Core.Path.{_≡_}
+use mathlib.Core.Bool.{false}
 use lib.ListN.{getD}
 use borrow.Author.Needs.{needs}
 use Rattle.rules.specs.Levels.{awake}
@@ -21,12 +22,14 @@ told c =
     let s = t .before .before .before .before in
     quick-test (s .args .next .lead) (s .args .stamp) (w .result) (t .tail-on .result) (s .pre .1) (w .ensures) (c .if1 .left)
 
--- and of the level
-told-high : (c : tie.Else1) → let s = c .before .before .before .before .before in (levelWith (s .args .next .high) ≡ awake) × (s .args .next .high ≡ 2)
+-- and of the parts and the level
+told-high : (c : tie.Else1)
+    → let s = c .before .before .before .before .before in
+    (s .args .paired ≡ false) × (levelWith (s .args .next .high) ≡ awake) × (s .args .next .high ≡ 2)
 told-high c =
     let t = c .before in
     let s = t .before .before .before .before in
-    high-awake _ (s .pre .3) (t .tail-on .ensures (told c .1) .1)
+    high-awake _ _ (s .pre .3) (t .tail-on .ensures (told c .1) .1)
 
 last-four-requires : tie.Need-last-four-requires
 last-four-requires c κs = (told c .0, c .before .before .before .before .before .pre .2)
@@ -37,7 +40,7 @@ put-quick-requires c κs =
     let e = f .before in
     let t = e .before in
     let p = t .before .before .before .before .pre in
-    (p .0, p .1, rw (f .last-four .ensures), t .tail-on .ensures (told e .1) .2 (told-high e .1) .good .fits)
+    (p .0, p .1, rw (f .last-four .ensures), t .tail-on .ensures (told e .1) .2 (told-high e .2) .good .fits)
 
 returns-2 : tie.Need-returns-2
 returns-2 c =
@@ -49,12 +52,12 @@ returns-2 c =
     let s = t .before .before .before .before in
     let a = s .args in
     let q = told e in
-    let up = told-high e .0 in
-    let tail = t .tail-on .ensures (q .1) .2 (told-high e .1) in
+    let h = told-high e in
+    let tail = t .tail-on .ensures (q .1) .2 (h .2) in
     let there = rw (f .last-four .ensures, b .bank-digit .ensures) at (x .0) in
     record {
-      line = rw (q .2) (put-as (quick-line (a .sleeps) _ (a .pins) (a .next .counter) up tail (a .next .lead) _ (s .pre .1) (q .0)) there);
-      stands = quick-after (a .sleeps) _ (a .pins) (a .next .counter) up tail;
+      line = rw (q .2) (put-as (quick-line (a .sleeps) _ _ (a .pins) (a .next .counter) (a .next .second) (h .0) (h .1) tail (a .next .lead) _ (s .pre .1) (q .0)) there);
+      stands = quick-after (a .sleeps) _ _ (a .pins) (a .next .counter) (a .next .second) (h .0) (h .1) tail;
       high = s .pre .3;
       lead = s .pre .1;
       small = x .1;

@@ -25,8 +25,8 @@ put-next-requires c κs =
     let a = c .before .before .before .before .before .before .before .before .before .before .before .before .args in
     omega (arith, short 19 (a .commands) (omega arith), short 19 (a .refreshes) (omega arith))
 
-put-owed-requires : tie.Need-put-owed-requires
-put-owed-requires c κs =
+put-ledgers-requires : tie.Need-put-ledgers-requires
+put-ledgers-requires c κs =
     let a = c .before .before .before .before .before .before .before .before .before .before .before .before .before .before .before .before .args in
     omega (arith, short 19 (a .commands) (omega arith), short 19 (a .refreshes) (omega arith))
 
@@ -43,18 +43,18 @@ same-length c = search needs
 
 returns-2 : tie.Need-returns-2
 returns-2 c =
-    let owed = c .before .before .before .before .before .before .before in
-    let next = owed .before .before .before .before in
+    let ledgers = c .before .before .before .before .before .before .before in
+    let next = ledgers .before .before .before .before in
     let number = next .before .before .before .before in
     let word = number .before .before .before .before in
     let room = word .before .before .before in
     let a = room .before .before .args in
     let first = then (omega arith) (word .put-text .ensures) (number .put-number .ensures) in
     let second = then (omega arith) first (next .put-next .ensures) in
-    let third = then (omega arith) second (owed .put-owed .ensures .0) in
+    let third = then (omega arith) second (ledgers .put-ledgers .ensures .0) in
     written (omega (arith, room .if1 .left))
     (omega (arith, word .put-text .ensures, short 19 (a .commands) (omega arith), short 19 (a .refreshes) (omega arith)))
-    (accepted-joined _ _ (a .owed))
+    (accepted-joined _ _ _)
     (then (omega arith) third (c .before .before .put-text2 .ensures))
 
 pub accepted-line-spec : {M : Type 1} → statement M
@@ -66,7 +66,7 @@ accepted-line-spec =
     put-text-requires
     put-number-requires
     put-next-requires
-    put-owed-requires
+    put-ledgers-requires
     slice-aggregate-put-text-2
     put-text-requires-2
     same-length

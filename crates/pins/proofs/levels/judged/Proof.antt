@@ -22,6 +22,9 @@ enum-told c = search needs
 enum-told-2 : tie.Need-enum-told-2
 enum-told-2 c = search needs
 
+enum-told-3 : tie.Need-enum-told-3
+enum-told-3 c = search needs
+
 returns : tie.Need-returns
 unfolding entries.judgedAs commandOf readOf
 returns c = cc
@@ -38,6 +41,10 @@ returns-4 : tie.Need-returns-4
 unfolding entries.judgedAs commandOf readOf
 returns-4 c = cc
 
+returns-5 : tie.Need-returns-5
+unfolding entries.judgedAs commandOf readOf
+returns-5 c = cc
+
 pub judged-spec : {M : Type 1} → statement M
 judged-spec =
     tie.close
@@ -48,7 +55,9 @@ judged-spec =
     moves-as-requires
     enum-told
     enum-told-2
+    enum-told-3
     returns
     returns-2
     returns-3
-    returns-4)
+    returns-4
+    returns-5)

@@ -16,6 +16,9 @@ enum-told-2 c = search needs
 enum-told-3 : tie.Need-enum-told-3
 enum-told-3 c = search needs
 
+enum-told-4 : tie.Need-enum-told-4
+enum-told-4 c = search needs
+
 returns : tie.Need-returns
 unfolding entries.moveOf movedOf readOf
 returns c = cc
@@ -32,6 +35,10 @@ returns-4 : tie.Need-returns-4
 unfolding entries.moveOf movedOf readOf
 returns-4 c = cc
 
+returns-5 : tie.Need-returns-5
+unfolding entries.moveOf movedOf readOf
+returns-5 c = cc
+
 pub move-of-spec : {M : Type 1} → statement M
 move-of-spec =
     tie.close
@@ -40,7 +47,9 @@ move-of-spec =
     enum-known-read
     enum-told-2
     enum-told-3
+    enum-told-4
     returns
     returns-2
     returns-3
-    returns-4)
+    returns-4
+    returns-5)

@@ -19,6 +19,9 @@ enum-told-2 c = search needs
 enum-told-3 : tie.Need-enum-told-3
 enum-told-3 c = search needs
 
+enum-told-4 : tie.Need-enum-told-4
+enum-told-4 c = search needs
+
 returns : tie.Need-returns
 unfolding entries.recordedAs commandOf readOf
 returns c = cc
@@ -35,6 +38,10 @@ returns-4 : tie.Need-returns-4
 unfolding entries.recordedAs commandOf readOf
 returns-4 c = cc
 
+returns-5 : tie.Need-returns-5
+unfolding entries.recordedAs commandOf readOf
+returns-5 c = cc
+
 pub recorded-spec : {M : Type 1} → statement M
 recorded-spec =
     tie.close
@@ -44,7 +51,9 @@ recorded-spec =
     enum-told
     enum-told-2
     enum-told-3
+    enum-told-4
     returns
     returns-2
     returns-3
-    returns-4)
+    returns-4
+    returns-5)

@@ -12,7 +12,7 @@ joined-requires : tie.Need-joined-requires
 joined-requires c κs = rw (c .parts-of .ensures) (parts-are (c .before .args .command) .2)
 
 returns : tie.Need-returns
-returns c = c .joined .ensures ∙ ap joinedOf (c .before .parts-of .ensures) ∙ parts-are (c .before .before .args .command) .1
+returns c = (c .joined .ensures .0 ∙ ap joinedOf (c .before .parts-of .ensures) ∙ parts-are (c .before .before .args .command) .1, c .joined .ensures .1)
 
 pub pins-of-spec : {M : Type 1} → statement M
 pins-of-spec = tie.close (tie.spec parts-of-requires joined-requires returns)

@@ -11,13 +11,13 @@ takes-requires : tie.Need-takes-requires
 takes-requires c κs = search needs
 
 returns : tie.Need-returns
-returns c = unfit _ _ _ (sym (c .before .takes .ensures) ∙ search not-true)
+returns c = unfit _ _ _ _ _ (sym (c .before .takes .ensures) ∙ search not-true)
 
 returns-2 : tie.Need-returns-2
-returns-2 c = no-room _ _ _ (sym (c .before .before .takes .ensures) ∙ search not-false) (omega arith)
+returns-2 c = no-room _ _ _ _ _ (sym (c .before .before .takes .ensures) ∙ search not-false) (omega arith)
 
-pins-of-requires : tie.Need-pins-of-requires
-pins-of-requires c κs = search needs
+pins-for-requires : tie.Need-pins-for-requires
+pins-for-requires c κs = search needs
 
 put-entry-requires : tie.Need-put-entry-requires
 put-entry-requires c κs = search needs
@@ -29,8 +29,8 @@ returns-3 : tie.Need-returns-3
 returns-3 c =
     let d = c .before .before .before in
     let t = d .before .before .before in
-    done _ _ _ _ (sym (t .before .takes .ensures) ∙ search not-false) (omega arith)
-    (c .before .before .put-entry .ensures ∙ rw (d .pins-of .ensures))
+    done _ _ _ _ _ _ (sym (t .before .takes .ensures) ∙ search not-false) (omega arith)
+    (c .before .before .put-entry .ensures ∙ rw (d .pins-for .ensures))
 
 pub write-entry-spec : {M : Type 1} → statement M
 write-entry-spec =
@@ -39,7 +39,7 @@ write-entry-spec =
     takes-requires
     returns
     returns-2
-    pins-of-requires
+    pins-for-requires
     put-entry-requires
     same-length
     returns-3)

@@ -1,13 +1,14 @@
--- 6 to 9 and 16, then 10.
+-- 6 to 9, 16 and 24, then 10.
 use mathlib.Core.Path.{_∙_}
 use borrow.Author.Needs.{needs}
-use Rattle.bank.specs.Values.{shareOf, lentOf}
+use Rattle.bank.specs.Values.{shareOf}
+use Rattle.bounds.specs.Values.{lookWith}
 use Rattle.step.specs.Parts.{judgedRefusal}
 use Rattle.step.proofs.offering.judged.Statement.{statement}
 use Rattle.step.proofs.offering.judged.Tie as tie
 
 returns : tie.Need-returns
-unfolding judgedRefusal lentOf shareOf
+unfolding judgedRefusal shareOf lookWith
 returns c =
     c .or-else .ensures ∙ rw (c .before .before .before .before .reading .ensures, c .before .delayed .ensures, c .before .before .move-of .ensures, c .before .before .before .judged .ensures)
 

@@ -2,7 +2,7 @@
 use mathlib.Core.Path.{_∙_}
 use borrow.Author.Needs.{needs}
 use Rattle.rules.specs.Folds.{orElse, firstOf}
-use Rattle.rules.specs.Checks.{unless, isWrong, isReserved}
+use Rattle.rules.specs.Checks.{unless, isWrong, isClash, isReserved}
 use Rattle.pins.specs.Values.{decodedOf}
 use Rattle.step.specs.Values.{refusalOf}
 use Rattle.step.specs.Parts.{readingRefusal}
@@ -15,7 +15,7 @@ unfolding refusalOf decodedOf readingRefusal firstOf orElse unless isWrong
 returns c = rw (c .enum-told .given .1)
 
 returns-2 : tie.Need-returns-2
-unfolding refusalOf decodedOf readingRefusal firstOf orElse unless isWrong isReserved
+unfolding refusalOf decodedOf readingRefusal firstOf orElse unless isWrong isClash isReserved
 returns-2 c = rw (c .enum-told2 .given .1)
 
 returns-3 : tie.Need-returns-3

@@ -1,17 +1,37 @@
--- 13 of the whole record, once.
-use mathlib.Core.Path.{_∙_}
+-- 13 of the whole record, once; then by the card's parts.
+use mathlib.Core.Path.{ap, sym, _∙_}
 use borrow.Author.Needs.{needs}
-use Rattle.step.proofs.Answers.{by-test}
+use borrow.Author.Tests.{not-true, not-false}
+use Rattle.step.specs.declared.single.Single.{Single}
+use Rattle.step.specs.Runs.{runOf}
+use Rattle.step.specs.Parts.{Prepared}
+use Rattle.step.specs.Single.{singleOf, whole}
 use Rattle.step.proofs.Leaves.{prepared}
-use Rattle.step.proofs.Joining.{unsound}
+use Rattle.step.proofs.Joining.{unsound, ready-of}
 use Rattle.step.proofs.turns.run.Statement.{statement}
 use Rattle.step.proofs.turns.run.Tie as tie
 
-sound-run-requires : tie.Need-sound-run-requires
-sound-run-requires c κs = prepared _ _ (by-test (c .before .if1 .taken) (search needs)) (c .delays-of .ensures)
+abbrev start : tie.After-delays-of → tie.Start
+start c = c .before .before .before .before
 
-returns-2 : tie.Need-returns-2
-returns-2 c = c .nothing .ensures ∙ unsound _ _ _ (by-test (c .before .if1 .left) (search needs))
+ready : (c : tie.After-delays-of) → Prepared (start c .args .rec) (c .delays-of .result)
+ready c = prepared _ _ (sym (c .before .before .good2 .ensures) ∙ not-false _ (c .before .if1 .left)) (c .delays-of .ensures)
+
+returns : tie.Need-returns
+returns c = c .nothing .ensures ∙ unsound _ _ _ (sym (c .before .before .good2 .ensures) ∙ not-true _ (c .before .if1 .taken))
+
+pair-run-requires : tie.Need-pair-run-requires
+pair-run-requires c κs = ready (c .before)
+
+single-run-requires : tie.Need-single-run-requires
+single-run-requires c κs = rw (c .single-of .ensures) (ready-of _ _ (ready (c .before .before)) (c .before .if2 .left))
+
+returns-3 : tie.Need-returns-3
+unfolding singleOf
+returns-3 c =
+    let ran = c .before in
+    let a = start (ran .before .before .before) .args in
+    c .ran-with .ensures ∙ ran .single-run .ensures _ ∙ ap (λ (s : Single). runOf (a .most) (whole (a .rec .second) s) (a .bytes .now)) (ran .before .single-of .ensures)
 
 pub run-spec : {M : Type 1} → statement M
 run-spec =
@@ -19,7 +39,11 @@ run-spec =
     (tie.spec
     (λ c κs. search needs)
     (λ c κs. search needs)
-    sound-run-requires
+    returns
+    (λ c κs. search needs)
+    pair-run-requires
     (λ c. search needs)
     (λ c κs. search needs)
-    returns-2)
+    single-run-requires
+    (λ c κs. search needs)
+    returns-3)

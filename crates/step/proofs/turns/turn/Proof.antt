@@ -4,12 +4,12 @@ use native.Mathlib.Omega.{arith}
 use lib.ListN.{length}
 use denote.Ref.{now}
 use borrow.Author.Needs.{needs}
-use Rattle.bank.proofs.Sizes.{Whole, held, each-whole, noted-whole}
+use Rattle.bank.proofs.Sizes.{ShareWhole, held, each-whole, noted-whole}
 use Rattle.step.proofs.Turning.{quick-fits, whole-turn, table-asks, table-fits, turn-so}
 use Rattle.step.proofs.turns.turn.Statement.{statement}
 use Rattle.step.proofs.turns.turn.Tie as tie
 
-arrays : (c : tie.Start) → Whole (c .args .part .rec)
+arrays : (c : tie.Start) → ShareWhole (c .args .part .rec .share)
 arrays c =
     let r = c .args .part .rec in
     let share = c .good .0 .1 .1 .0 .1 .1 .1 .1 .0 .1 .1 in

@@ -1,0 +1,168 @@
+/* What is drawn by the seed: numbers, cards, pins. */
+#ifndef DRAWS_H
+#define DRAWS_H
+
+#include "trace.h"
+
+static uint64_t seed;
+
+static uint64_t draw(void)
+{
+    uint64_t z = seed += 0x9E3779B97F4A7C15;
+    z = (z ^ z >> 30) * 0xBF58476D1CE4E5B9;
+    z = (z ^ z >> 27) * 0x94D049BB133111EB;
+    return z ^ z >> 31;
+}
+
+/* No two draws stand where C leaves open which comes first: a seed means the same by every compiler. */
+static uint64_t below(uint64_t n) { return draw() % n; }
+static uint64_t between(uint64_t low, uint64_t high) { return low + below(high - low + 1); }
+static bool one_in(unsigned n) { return below(n) == 0; }
+#define PICK(list) (list)[below(sizeof(list) / sizeof *(list))]
+
+static const struct card bench_card = {
+    .period = 1250,
+    .mr2 = 0x1A,
+    .r = 8192,
+    .refi = 3900000,
+    .ps = {18000, 18000, 21000, 42000, 10000, 50000, 7500, 15000, 7500, 5500, 130000, 60000, 0, 0},
+    .floor = {3, 3, 3, 3, 2, 8, 4, 4, 4, 0, 0, 0, 4, 10},
+};
+
+/* The bench card's tCKE, tXP, tCKESR, tXSR, where it has them. */
+static const uint32_t sleep_ps[] = {7500, 10000, 15000, 140000};
+static const uint8_t sleep_floors[] = {3, 3, 3, 2};
+
+/* What a card has beyond tags 1 to 18. */
+enum form { PLAIN, SLEEPING, PAIRED };
+
+static void add_form(struct card *c, enum form form)
+{
+    c->sleeps = form == SLEEPING;
+    c->two = form == PAIRED;
+    c->gap = c->two ? 2 : 0;
+    if (c->sleeps) {
+        memcpy(c->ps + tCKE, sleep_ps, sizeof sleep_ps);
+        memcpy(c->floor + tCKE, sleep_floors, sizeof sleep_floors);
+    }
+}
+
+static uint8_t random_mr2(uint32_t period)
+{
+    uint8_t v;
+    do
+        v = (uint8_t)(draw() & 0x5F);
+    while (!latency_of(v, period));
+    return v;
+}
+
+static void random_timing(struct card *c, unsigned i, unsigned style)
+{
+    if (style == 0) {
+        c->ps[i] = (uint32_t)(c->ps[i] * between(50, 150) / 100);
+    } else if (style == 1) {
+        c->ps[i] = (uint32_t)(below(20) * c->period);
+        c->ps[i] = c->ps[i] ? c->ps[i] - (uint32_t)below(3) + 1 : 0;
+        c->floor[i] = (uint8_t)below(20);
+    } else if (style == 2) {
+        c->ps[i] = (uint32_t)below(one_in(4) ? 200000 : 30000);
+        c->floor[i] = (uint8_t)(one_in(3) ? below(16) : 0);
+    } else if (one_in(12)) {
+        c->ps[i] = one_in(2) ? 1000000 : 0;
+        c->floor[i] = one_in(2) ? 255 : 0;
+    }
+    if (c->ps[i] > 1000000)
+        c->ps[i] = 1000000;
+}
+
+static void random_card(struct card *c, enum form form)
+{
+    static const uint32_t periods[] = {938,  939,  1070, 1071, 1072, 1249, 1250,  1251,  1360,  1500,
+                                       1670, 1875, 2500, 5999, 6000, 6001, 33333, 99999, 100000};
+    *c = bench_card;
+    add_form(c, form);
+    if (c->two)
+        c->gap = (uint8_t)(one_in(4) ? below(256) : below(6));
+    c->period = one_in(3) ? (uint32_t)between(938, 100000) : one_in(3) ? 1250 : PICK(periods);
+    c->mr2 = random_mr2(c->period);
+    c->r = (uint16_t)between(1, 16384);
+    uint64_t interval = one_in(8) ? between(1, 20) : one_in(2) ? between(20, 600) : between(600, 22000);
+    uint64_t refi = interval * c->period + below(c->period);
+    c->refi = refi > 20000000 ? 20000000 : (uint32_t)refi;
+    unsigned style = (unsigned)below(4);
+    for (unsigned i = 0; i < timings(c); i++)
+        random_timing(c, i, style);
+    uint64_t four = c->ps[tRRD] * between(3, 6);
+    if (one_in(2))
+        c->ps[tFAW] = four > 1000000 ? 1000000 : (uint32_t)four;
+}
+
+static bool tidy; /* ignored bits zero */
+
+static uint32_t encode(enum kind k, unsigned bank, unsigned ma, unsigned op)
+{
+    static const struct {
+        uint32_t value, mask;
+    } form[] = {
+        [NOP] = {7, 7},       [MRW] = {0, 15},
+        [MRR] = {8, 15},      [REFPB] = {4, 15},
+        [REFAB] = {12, 15},   [ACT] = {2, 3},
+        [RD] = {5, 7 | 1024}, [RDA] = {5 | 1024, 7 | 1024},
+        [WR] = {1, 7 | 1024}, [WRA] = {1 | 1024, 7 | 1024},
+        [PRE] = {11, 31},     [PREA] = {27, 31},
+    };
+    uint32_t other = tidy ? 0 : (uint32_t)below(1 << 20);
+    if (k == NOP && one_in(2))
+        return 0x300000 | other;
+    uint32_t pins = (other & ~form[k].mask) | form[k].value;
+    if (k == ACT || (k >= RD && k <= PRE))
+        pins = (pins & ~0x380u) | bank << 7;
+    if (k == MRW || k == MRR)
+        pins = (pins & ~0xFF0u) | ma << 4;
+    if (k == MRW)
+        pins = (pins & ~0xFF000u) | op << 12;
+    return 0x200000 | pins;
+}
+
+static uint32_t random_pins(enum kind k, unsigned bank, uint32_t period)
+{
+    static const uint8_t listed[] = {1, 2, 2, 2, 2, 3, 11, 16, 17};
+    unsigned ma = (unsigned)below(256), op = (unsigned)below(256);
+    if (k == MRW) {
+        ma = PICK(listed);
+        if (ma == 1)
+            op = (op & ~7u) | 3;
+        if (ma == 2)
+            op = random_mr2(period);
+    }
+    return encode(k, bank, ma, op);
+}
+
+/* What a part sees, as the pins of an entry to this part. */
+static uint32_t to_part(uint32_t pins, unsigned p)
+{
+    if (!trace.card.two)
+        return pins;
+    return pins | (pins >> 20 & 1 ? CS_NS : CS_NS & ~(1u << (20 + 2 * p)));
+}
+
+static uint32_t stray_pins(uint32_t period)
+{
+    enum kind k = (enum kind)below(RESERVED);
+    unsigned bank = (unsigned)below(8), p = (unsigned)below(2);
+    return to_part(random_pins(k, bank, period), p);
+}
+
+/* CS_n and the CA bits as they come. */
+static uint32_t noise(uint32_t bits) { return tidy ? 0 : (uint32_t)below(1 << 21) & bits; }
+
+static uint32_t fall_pins(enum level to)
+{
+    if (to == POWER_DOWN)
+        return 0x100000 | noise(0xFFFFF);
+    return noise(0xFFFF8) | (to == SELF_REFRESH ? 4 : 3);
+}
+
+static uint32_t rise_pins(void) { return 0x300000 | noise(0xFFFFF); }
+
+#endif

@@ -1,0 +1,107 @@
+/* One trace in the making: its entries, and its bytes. */
+#ifndef TRACE_H
+#define TRACE_H
+
+#include "../rules.h"
+
+#include <stdio.h>
+#include <stdlib.h>
+
+static void *grown(void *p, size_t size)
+{
+    p = realloc(p, size);
+    if (!p) {
+        fprintf(stderr, "generate: no memory\n");
+        exit(2);
+    }
+    return p;
+}
+
+/* One trace, before it becomes bytes. */
+struct entry {
+    uint32_t stamp, pins;
+};
+
+static struct {
+    struct card card;
+    struct entry *e;
+    size_t n, room;
+    uint32_t last;
+    uint64_t fail;
+} trace;
+
+static void insert(size_t at, struct entry e)
+{
+    if (trace.n == trace.room) {
+        trace.room = trace.room ? 2 * trace.room : 256;
+        trace.e = grown(trace.e, trace.room * sizeof *trace.e);
+    }
+    memmove(trace.e + at + 1, trace.e + at, (trace.n - at) * sizeof *trace.e);
+    trace.e[at] = e;
+    trace.n++;
+}
+
+static void drop(size_t at)
+{
+    trace.n--;
+    memmove(trace.e + at, trace.e + at + 1, (trace.n - at) * sizeof *trace.e);
+}
+
+/* Its bytes. */
+static struct {
+    uint8_t *p;
+    size_t n, room;
+} bytes;
+
+static void insert_bytes(size_t at, const uint8_t *p, size_t n)
+{
+    if (bytes.room - bytes.n < n) {
+        bytes.room = 2 * bytes.room + n + 1024;
+        bytes.p = grown(bytes.p, bytes.room);
+    }
+    memmove(bytes.p + at + n, bytes.p + at, bytes.n - at);
+    memcpy(bytes.p + at, p, n);
+    bytes.n += n;
+}
+
+static void drop_bytes(size_t at, size_t n)
+{
+    bytes.n -= n;
+    memmove(bytes.p + at, bytes.p + at + n, bytes.n - at);
+}
+
+static void put(uint64_t value, unsigned n)
+{
+    uint8_t b[8];
+    for (unsigned i = 0; i < n; i++)
+        b[i] = (uint8_t)(value >> 8 * (n - 1 - i));
+    insert_bytes(bytes.n, b, n);
+}
+
+static void put_field(unsigned tag, unsigned length, uint64_t value)
+{
+    put(tag, 1);
+    put(length, 2);
+    put(value, length);
+}
+
+static unsigned timings(const struct card *c) { return c->sleeps ? TIMINGS : tCKE; }
+
+static void serialize(void)
+{
+    const struct card *c = &trace.card;
+    bytes.n = 0;
+    put_field(1, 4, c->period);
+    put_field(2, 1, c->mr2);
+    put_field(3, 2, c->r);
+    put_field(4, 4, c->refi);
+    for (unsigned i = 0; i < timings(c); i++)
+        put_field(5 + i, 5, (uint64_t)c->ps[i] << 8 | c->floor[i]);
+    if (c->two)
+        put_field(25, 1, c->gap);
+    for (size_t i = 0; i < trace.n; i++)
+        put_field(32, 7, (uint64_t)trace.e[i].stamp << 24 | trace.e[i].pins);
+    put_field(33, 4, trace.last);
+}
+
+#endif

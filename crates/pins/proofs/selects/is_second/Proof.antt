@@ -1,0 +1,38 @@
+use borrow.Author.Needs.{needs}
+use Rattle.rules.specs.Whose.{isOf}
+use Rattle.pins.specs.Values.{whoseOf}
+use Rattle.pins.proofs.selects.is_second.Statement.{statement}
+use Rattle.pins.proofs.selects.is_second.Tie as tie
+
+enum-told : tie.Need-enum-told
+enum-told c = search needs
+
+enum-told-2 : tie.Need-enum-told-2
+enum-told-2 c = search needs
+
+enum-told-3 : tie.Need-enum-told-3
+enum-told-3 c = search needs
+
+enum-told-4 : tie.Need-enum-told-4
+enum-told-4 c = search needs
+
+returns : tie.Need-returns
+unfolding isOf whoseOf
+returns c = cc
+
+returns-2 : tie.Need-returns-2
+unfolding isOf whoseOf
+returns-2 c = cc
+
+returns-3 : tie.Need-returns-3
+unfolding isOf whoseOf
+returns-3 c = cc
+
+returns-4 : tie.Need-returns-4
+unfolding isOf whoseOf
+returns-4 c = cc
+
+pub is-second-spec : {M : Type 1} → statement M
+is-second-spec =
+    tie.close
+    (tie.spec enum-told enum-told-2 enum-told-3 enum-told-4 returns returns-2 returns-3 returns-4)

@@ -1,0 +1,27 @@
+use Prim.Native.Nat.{_≤_, _-_}
+use native.Mathlib.Omega.{arith}
+use Rattle.singles.proofs.same.stamps.Statement.{statement}
+use Rattle.singles.proofs.same.stamps.Tie as tie
+
+abbrev Inv-loop : tie.InvT-loop
+Inv-loop a b i₀ i = i ≤ 8
+
+abbrev μ-loop : tie.MeasureT-loop
+μ-loop a b i₀ i = 8 - i
+
+pub stamps-spec : {M : Type 1} → statement M
+stamps-spec =
+    tie.close
+    (tie.spec
+    Inv-loop
+    μ-loop
+    (λ c. omega arith)
+    (λ c. omega arith)
+    (λ c. omega arith)
+    (λ c. omega arith)
+    (λ c. omega arith)
+    (λ c. tt)
+    (λ c. omega arith)
+    (λ c. omega arith)
+    (λ c. omega arith)
+    (λ c. tt))
