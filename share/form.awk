@@ -175,7 +175,7 @@ function wrong_with(p, mode, name) {
 
 function wrong_with_two(p, name) {
     if (bits(p, 21, 1) == 0 || bits(p, 23, 1))
-        return "bits 21 and 23 are wrong"
+        return "bit 21 must be 1 and bit 23 must be 0"
     if (bits(p, 20, 3) == 2)
         return "both CS_n are low"
     return name == "-" ? "reserved, part " part_on(p) : ""

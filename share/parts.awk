@@ -30,7 +30,7 @@ function explain_account(offset, cycle, b,    at, bytes) {
         take_refreshes(at, offset - at < bytes ? offset - at : bytes)
     if (b[1] == ENTRY && number_at(b, 4, 4) <= cycle)
         take_refresh(number_at(b, 4, 4), number_at(b, 8, 3))
-    print "part   " (fails(0, cycle) ? 0 : 1) ": " says["part account"]
+    print "part   " (fails(0, cycle) ? 0 : 1) ": " says["part account" (fails(0, cycle) && fails(1, cycle) ? "s" : "")]
 }
 
 function in_ps(name,    word) {
@@ -38,10 +38,12 @@ function in_ps(name,    word) {
     return word[2]
 }
 
+# Of these bytes, whole entries; what has not the lowest pins of REFAB or REFPB is passed over at once.
 function take_refreshes(at, bytes,    b, k) {
     read_bytes(at, bytes, b)
     for (k = 0; k < bytes; k += 3 + SIZE[ENTRY])
-        take_refresh(number_at(b, k + 4, 4), number_at(b, k + 8, 3))
+        if (b[k + 10] % 8 == 4)
+            take_refresh(number_at(b, k + 4, 4), number_at(b, k + 8, 3))
 }
 
 # An accepted entry. turn: a part's round counter; ledger and done: its ledger after its last counted refresh, and the cycle of that.

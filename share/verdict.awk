@@ -42,7 +42,7 @@ function read_bytes(offset, count, b,    command, line, n, m, i, part) {
 function explain_counts(    k, text) {
     read_words()
     for (k = 1; k <= numbers; k++)
-        text = text (k > 1 ? ", " : "") verdict[k + 1] " " says["accepted " k (numbers > 3 && k > 2 ? " of two" : "")]
+        text = text (k > 1 ? ", " : "") verdict[k + 1] " " says["accepted " k (numbers > 3 ? " of two" : "")]
     print "why    " text
 }
 

@@ -1,20 +1,19 @@
 -- What the lines of entries go by, of a record: what a step goes by, of whichever part; and what it is after an entry.
-use Prim.Native.Nat.{ℕ, _/_, _^_, _≤_, _<_}
+use Prim.Native.Nat.{ℕ, _≤_, _<_}
 use mathlib.Core.Path.{_≡_, refl, ap, sym, _∙_}
-use mathlib.Core.Bool.{Bool, true, false, cond, not, _&&_}
+use mathlib.Core.Bool.{Bool, true, false, cond}
 use mathlib.Core.Option.{none}
 use native.Mathlib.Omega.{arith}
 use lib.Dec.{eqb}
 use borrow.Author.Tests.{leb-true}
-use Rattle.rules.specs.Bits.{on}
 use Rattle.rules.specs.Commands.{Command}
-use Rattle.rules.specs.Pins.{wrongBits}
 use Rattle.rules.specs.Whose.{Whose, isOf, partOf, whose}
-use Rattle.rules.specs.Levels.{Level, Move, stays, levelAfter, Read, plain, selected, readPair, readAs}
+use Rattle.rules.specs.Levels.{Level, Move, stays, levelAfter, Read, readAs}
 use Rattle.rules.specs.Entries.{Entry, read, whoseOf, partIn, moveOf}
 use Rattle.rules.specs.Lent as lent
 use Rattle.rules.specs.Lent.{lentGood, ownIn, readIn, commandIn, moveIn, effectOf, effectIn, noEffect, effectOn, atLevel, entered, ledgerWith, stepRefusal}
-use Rattle.rules.proofs.CardGood.{good-parts}
+use Rattle.rules.proofs.CardGood.{pair-awake}
+use Rattle.rules.proofs.Clocks.{pair-stays}
 use Rattle.rules.proofs.Filtered.{is-part, judging-part}
 use Rattle.rules.proofs.Sound.{sound, sound-ledger, step-passed, ledger-kept}
 use Rattle.card.specs.Values.{cardOf}
@@ -31,18 +30,6 @@ use Rattle.step.specs.Values.{recordWith}
 use Rattle.step.proofs.Kept.{ledger-back}
 use Rattle.lines.specs.Runs.{counterFor, counterIf, standingAfter}
 use Rattle.chunks.specs.Parts.{standsIn}
-
--- two parts have no move of clock-enable
-no-move : (p : ℕ) → moveOf (readPair p) ≡ stays
-unfolding readPair
-no-move p = go (on p 21 && eqb (p / 2 ^ 23) 0) (on p 20) (on p 22)
-  where
-    go : (x y z : Bool) → moveOf (cond x (selected y z p) (plain wrongBits)) ≡ stays
-    go false y z = unfold moveOf in refl
-    go true false false = unfold selected moveOf in refl
-    go true false true = unfold selected moveOf in refl
-    go true true false = unfold selected moveOf in refl
-    go true true true = unfold selected moveOf in refl
 
 taken-counter : (own : Bool) (s : Share) (c : Command) (v : Move) (t : ℕ) (g : Ledger) → shareTaken own s c v t g .counter ≡ cond own (counterOn c v (s .counter)) (s .counter)
 unfolding shareTaken shareAfter
@@ -88,13 +75,7 @@ module _ (rec : Record) (e : Entry) where
 
   module _ (good : lentGood (lentOf rec) ≡ true) where
     apart : rec .card .paired ≡ true → rec .card .sleeps ≡ false
-    apart u =
-        let h : not (rec .card .sleeps && rec .card .paired) ≡ true = unfold lentOf cardOf in good-parts (l .card) (sound l good .card) .apart in
-        go (rec .card .sleeps) (rw u at h)
-      where
-        go : (x : Bool) → not (x && true) ≡ true → x ≡ false
-        go true h = sym h
-        go false h = refl
+    apart = unfold lentOf cardOf in pair-awake (l .card) (sound l good .card)
 
     pub counter-low : counterFor whoseIn (rec .first .counter) (rec .second .counter) ≤ 7
     counter-low = rw (← counter-by) (unfold ownIn in leb-true _ 7 (sound l good .part (partIn (l .card) e) (judging-part (l .card) e) .counter))
@@ -118,7 +99,7 @@ module _ (rec : Record) (e : Entry) where
 
         still : (x : Bool) → rec .card .paired ≡ x → isOf 0 whoseIn ≡ false → moveOf readBy ≡ stays
         still false u o = let z : true ≡ false = sym (alone u) ∙ o in let y : _≡_ {A = ℕ} 0 1 = cc in absurd (omega arith)
-        still true u o = rw (u, apart u) (unfold readAs in no-move (e .pins))
+        still true u o = rw (u, apart u) (unfold readAs in pair-stays (e .pins))
 
         go : (x : Bool) → isOf 0 whoseIn ≡ x → cond x (effectIn l e) (noEffect (l .share 0 .ledger .level)) .level ≡ levelAfter (moveOf readBy) (standsIn rec .level)
         go true o = unfold effectIn effectOf in rw (read-by, own-level (is-part 0 whoseIn o))

@@ -1,7 +1,7 @@
 -- The counted refreshes of all parts: an entry is counted once, by the part that judges it.
 use Prim.Native.Nat.{ℕ, _+_, _/_, _^_}
-use mathlib.Core.Path.{_≡_, refl, sym}
-use mathlib.Core.Bool.{Bool, true, false, cond, not, _&&_}
+use mathlib.Core.Path.{_≡_, refl}
+use mathlib.Core.Bool.{Bool, true, false, cond, _&&_}
 use mathlib.Core.List.{[], _∷_, map}
 use native.Mathlib.Omega.{arith}
 use lib.Dec.{eqb}
@@ -16,7 +16,7 @@ use Rattle.rules.specs.Levels.{Level, plain, selected, readPair, readAs}
 use Rattle.rules.specs.Past.{Past, ofPart, levelAt, counterAt, isCounted, stampsWhere, countedStamps}
 use Rattle.rules.specs.Entries.{Entry, read, readAfter, whoseOf, commandOf, recordedAs, taken, ownFor, pastWith}
 use Rattle.rules.specs.Verdict.{sum, refreshCount}
-use Rattle.rules.proofs.CardGood.{good-parts}
+use Rattle.rules.proofs.CardGood.{pair-awake}
 use Rattle.rules.proofs.Filtered.{own-part, of-next}
 
 pub none-counted : (card : Card) → refreshCount card [] ≡ 0
@@ -26,14 +26,6 @@ none-counted card = go (card .paired)
     go : (x : Bool) → sum (map (λ p. length (countedStamps (ofPart p []))) (cond x (0 ∷ 1 ∷ []) (0 ∷ []))) ≡ 0
     go true = unfold sum ofPart countedStamps stampsWhere in refl
     go false = unfold sum ofPart countedStamps stampsWhere in refl
-
--- a card of two parts has no tags 19 to 22
-pub apart : (card : Card) → cardGood card ≡ true → card .paired ≡ true → card .sleeps ≡ false
-apart card good u = go (card .sleeps) (rw u at (good-parts card good .apart))
-  where
-    go : (x : Bool) → not (x && true) ≡ true → x ≡ false
-    go true h = sym h
-    go false h = refl
 
 -- 1 if it is counted; and the same if it is part p's own, else 0
 abbrev one : Bool → ℕ
@@ -86,7 +78,7 @@ module _ (card : Card) (past : Past) (e : Entry) where
   counted-next good = go (card .paired) refl
     where
       pair : card .paired ≡ true → among (isOf 0 (whoseOf card e)) countedNow + among (isOf 1 (whoseOf card e)) countedNow ≡ one countedNow
-      pair u = unfold whoseOf readAfter read in pair-one (card .sleeps) (card .paired) (e .pins) (levelAt own) (counterAt own) (apart card good u) u
+      pair u = unfold whoseOf readAfter read in pair-one (card .sleeps) (card .paired) (e .pins) (levelAt own) (counterAt own) (pair-awake card good u) u
 
       alone : card .paired ≡ false → isOf 0 (whoseOf card e) ≡ true
       alone u = unfold whoseOf in rw u (unfold whose isOf in refl)

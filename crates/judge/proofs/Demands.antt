@@ -24,6 +24,7 @@ use Rattle.rules.proofs.Filtered.{IsPart}
 use Rattle.rules.proofs.Exactly.{accepted-iff}
 use Rattle.rules.proofs.Earliest.{ledgers-parts}
 use Rattle.rules.proofs.Summed.{commands-sum}
+use Rattle.rules.proofs.CardGood.{pair-awake}
 use Rattle.rules.proofs.CardRead.{card-good}
 use Rattle.rules.proofs.FileExactly.{file-iff}
 use Rattle.rules.proofs.FileAccepted.{accepted-file-iff, cardIn, ownPast, refreshed-file, counted-file, every-group-file, in-a-row-file}
@@ -33,7 +34,6 @@ use Rattle.chunks.specs.declared.Verdict.{Verdict}
 use Rattle.chunks.specs.declared.Verdict.the-variants.{Accepted}
 use Rattle.chunks.specs.Values.{verdictOf}
 use Rattle.judge.proofs.judge as judge
-use Rattle.judge.proofs.Counts.{apart}
 use Rattle.judge.proofs.Promises.{one-reading, judge-claims}
 
 module _ (κs : Lfts (judge.signature .lifetimes)) (a : Args judge.signature κs) (r : Verdict) (x : AtExit judge.ended κs) (e : judge-claims κs a r x .claim) where
@@ -65,7 +65,7 @@ module _ (κs : Lfts (judge.signature .lifetimes)) (a : Args judge.signature κs
     unfolding pastOf
     commands-of-all =
         accepts .commands
-        ∙ sym (unfold pastOf in commands-sum (cardIn file) (apart (cardIn file) (card-good (file .fs) (file .card) (file .whole))) (map entryOf (file .es)))
+        ∙ sym (unfold pastOf in commands-sum (cardIn file) (pair-awake (cardIn file) (card-good (file .fs) (file .card) (file .whole))) (map entryOf (file .es)))
 
     pub refreshes-of-all : n ≡ sum (map (λ q. length (countedStamps (ownPast file q))) (parts (cardIn file)))
     unfolding pastOf refreshCount

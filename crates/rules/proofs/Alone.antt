@@ -1,4 +1,5 @@
--- The judge as it was before two parts could share a bus: those of its definitions that request Nine changed.
+-- The judge as it was before two parts could share a bus: those of its definitions that request Nine changed. The rows of rules 1 to 24
+-- are today's: they ask the own part alone.
 use Prim.Native.Nat.{ℕ, suc}
 use mathlib.Core.Bool.{Bool, cond, not, _&&_, _||_}
 use mathlib.Core.List.{List, [], _∷_, _++_}

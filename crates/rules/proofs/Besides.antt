@@ -1,5 +1,5 @@
 -- What a part's verdicts depend on besides its own entries: stamp order, and of the other part its ledger, its last counted refresh and its latest RD, MRR and
--- WR. Behind two accepted runs that agree in these an entry is refused alike, so they depend on nothing else.
+-- WR. Behind two accepted runs that agree in these an entry is refused alike, so they depend on nothing else. The end depends on both ledgers alone.
 use Prim.Native.Nat.{ℕ, zero, suc, _+_, _-_, _≤_, _<_}
 use mathlib.Core.Path.{_≡_, refl, ap, sym, _∙_, subst}
 use mathlib.Core.Logic.{⊎-elim}
@@ -20,7 +20,7 @@ use Rattle.rules.specs.Delays.{find}
 use Rattle.rules.specs.Account.{lpddr3, steady, ledgerOn, lastOn, failing, failingOn, failingIn, firstIn, idle}
 use Rattle.rules.specs.Clock.{clock, beatOf, scheduleOf, bookOf, booksOf}
 use Rattle.rules.specs.Entries.{Entry, viewOf, readAfter, whoseOf, partIn, ownFor, othersFor, viewFor, readFor, moveOf, judgedAs, taken, pastWith, pastOf}
-use Rattle.rules.specs.Checks.{checks, above, entryChecks, entryRefusal}
+use Rattle.rules.specs.Checks.{checks, above, notBelow, entryChecks, endChecks, entryRefusal, endRefusal}
 use Rattle.rules.specs.Verdict.{accepted, judge}
 use Rattle.rules.specs.Lent.{hasPart}
 use Rattle.rules.proofs.Tests.{eq-cases, lt-cases}
@@ -64,9 +64,11 @@ pub record SameOther (card : Card) (s : ℕ) (own own′ : Past) : Type 0 where
   pub refreshed : lastOn (bookOf card own) s ≡ lastOn (bookOf card own′) s
   pub bus : SameBus (find card own) (find card own′)
 
-module _ (card : Card) (own own′ : Past) (s : ℕ) (a : Trace card own s) (a′ : Trace card own′ s) (c : Counting own) (c′ : Counting own′) (h : SameOther card s own own′) where
+module _ (card : Card) (own own′ : Past) (s : ℕ) (a : Trace card own s) (a′ : Trace card own′ s) (c : Counting own) (c′ : Counting own′)
+    (ledger : ledgerOn (lpddr3 .credit) (bookOf card own) s ≡ ledgerOn (lpddr3 .credit) (bookOf card own′) s)
+    (refreshed : lastOn (bookOf card own) s ≡ lastOn (bookOf card own′) s) where
   later : (j : ℕ) → failingOn lpddr3 (bookOf card own) (s + j) ≡ failingOn lpddr3 (bookOf card own′) (s + j)
-  later j = rw (failing-by card own s a c j, failing-by card own′ s a′ c′ j, h .ledger, h .refreshed)
+  later j = rw (failing-by card own s a c j, failing-by card own′ s a′ c′ j, ledger, refreshed)
 
   failing-same : (t : ℕ) → failingOn lpddr3 (bookOf card own) t ≡ failingOn lpddr3 (bookOf card own′) t
   failing-same t = ⊎-elim
@@ -82,6 +84,13 @@ failing-alike : (card : Card) (past past′ : Past) (t : ℕ) →
     failingIn lpddr3 (booksOf card past) t ≡ failingIn lpddr3 (booksOf card past′) t
 unfolding hasPart
 failing-alike card past past′ t h = failing-parts card past t ∙ ap firstOf (map-each _ _ (parts card) h) ∙ sym (failing-parts card past′ t)
+
+first-alike : (card : Card) (past past′ : Past) →
+    ((p : ℕ) → IsPart card p → (t : ℕ) → failingOn lpddr3 (bookOf card (ofPart p past)) t ≡ failingOn lpddr3 (bookOf card (ofPart p past′)) t) →
+    (t : ℕ) → firstIn lpddr3 (booksOf card past) t ≡ firstIn lpddr3 (booksOf card past′) t
+unfolding firstIn
+first-alike card past past′ h zero = refl
+first-alike card past past′ h (suc t) = rw (first-alike card past past′ h t, failing-alike card past past′ t (λ p i. h p i t))
 
 -- ---- an entry behind two pasts that agree in its own part's entries, in stamp order, in the other's bus and in where the other's account fails
 module _ (card : Card) (e : Entry) where
@@ -130,14 +139,9 @@ module _ (card : Card) (e : Entry) where
     abbrev failsOf : Past → ℕ → ℕ → Option (ℕ × ℕ)
     failsOf x t p = failingOn lpddr3 (bookOf card (ofPart p x)) t
 
-    in-same : (t : ℕ) → failingIn lpddr3 (booksOf card past) t ≡ failingIn lpddr3 (booksOf card past′) t
-    in-same t = failing-alike card past past′ t
-        (either (λ p. failsOf past t p ≡ failsOf past′ t p) (ap (λ (o : Past). failingOn lpddr3 (bookOf card o) t) own) (λ i. fails i t))
-
     first-same : (t : ℕ) → firstIn lpddr3 (booksOf card past) t ≡ firstIn lpddr3 (booksOf card past′) t
-    unfolding firstIn
-    first-same zero = refl
-    first-same (suc t) = rw (first-same t, in-same t)
+    first-same = first-alike card past past′
+        (either (λ p. (t : ℕ) → failsOf past t p ≡ failsOf past′ t p) (λ t. ap (λ (o : Past). failingOn lpddr3 (bookOf card o) t) own) fails)
 
     at-same : failingIn lpddr3 (booksOf card (pastWith card past e)) T ≡ failingIn lpddr3 (booksOf card (pastWith card past′ e)) T
     at-same = failing-alike card (pastWith card past e) (pastWith card past′ e) T
@@ -165,7 +169,23 @@ pub besides : (card : Card) → card .sleeps ≡ false → (e : Entry) (es es′
 besides card awake e es es′ s m n m′ n′ l l′ a a′ own order h =
     refused-alike card e (pastOf card es) (pastOf card es′) (own-only card (partIn card e) es es′ own) order (h .bus)
     (λ i. failing-same card (ofPart o (pastOf card es)) (ofPart o (pastOf card es′)) s (traced card es s m n l a o i) (traced card es′ s m′ n′ l′ a′ o i)
-    (all-counted card es awake o) (all-counted card es′ awake o) h)
+    (all-counted card es awake o) (all-counted card es′ awake o) (h .ledger) (h .refreshed))
   where
     o : ℕ
     o = other (partIn card e)
+
+-- the end, by each part's ledger and last counted refresh as after cycle s, and stamp order
+pub besides-end : (card : Card) → card .sleeps ≡ false → (es es′ : List Entry) (s m n m′ n′ : ℕ) (l l′ : List ℤ) →
+    judge card es s ≡ accepted m n l → judge card es′ s ≡ accepted m′ n′ l′ → (end : ℕ) →
+    notBelow (pastOf card es) end ≡ notBelow (pastOf card es′) end →
+    ((p : ℕ) → IsPart card p → (ledgerOn (lpddr3 .credit) (bookOf card (ofPart p (pastOf card es))) s ≡ ledgerOn (lpddr3 .credit) (bookOf card (ofPart p (pastOf card es′))) s) ×
+    (lastOn (bookOf card (ofPart p (pastOf card es))) s ≡ lastOn (bookOf card (ofPart p (pastOf card es′))) s)) →
+    endRefusal card (pastOf card es) end ≡ endRefusal card (pastOf card es′) end
+unfolding endRefusal endChecks
+besides-end card awake es es′ s m n m′ n′ l l′ a a′ end order h =
+    rw (
+      order,
+      first-alike card (pastOf card es) (pastOf card es′)
+          (λ p i. failing-same card (ofPart p (pastOf card es)) (ofPart p (pastOf card es′)) s (traced card es s m n l a p i) (traced card es′ s m′ n′ l′ a′ p i)
+          (all-counted card es awake p) (all-counted card es′ awake p) (h p i .0) (h p i .1)) (suc end),
+    )

@@ -1,6 +1,6 @@
 -- The parts of a card in range, by their names.
-use mathlib.Core.Path.{_≡_}
-use mathlib.Core.Bool.{true, not, _&&_}
+use mathlib.Core.Path.{_≡_, refl, sym}
+use mathlib.Core.Bool.{Bool, true, false, not, _&&_}
 use mathlib.Core.List.{_++_}
 use lib.Dec.{leb}
 use Rattle.rules.specs.Lists.{all}
@@ -32,3 +32,11 @@ good-parts card e =
 pub parts-good : (card : Card) → GoodCard card → cardGood card ≡ true
 unfolding cardGood
 parts-good card g = rw (g .period, g .mr2, g .groups, g .trefi, g .timed, g .gap) (g .apart)
+
+-- a card of two parts does not sleep
+pub pair-awake : (card : Card) → cardGood card ≡ true → card .paired ≡ true → card .sleeps ≡ false
+pair-awake card good u = go (card .sleeps) (rw u at (good-parts card good .apart))
+  where
+    go : (x : Bool) → not (x && true) ≡ true → x ≡ false
+    go true h = sym h
+    go false h = refl

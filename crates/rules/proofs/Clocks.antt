@@ -155,7 +155,8 @@ nop-uncounted : (n : ℕ) → isCounted nop n ≡ true → ⊥
 unfolding isCounted is code kindOf carries bare
 nop-uncounted n h = let z : _≡_ {A = ℕ} 0 1 = cc in omega arith
 
-pair-stays : (p : ℕ) → moveOf (readPair p) ≡ stays
+-- two parts have no move of clock-enable
+pub pair-stays : (p : ℕ) → moveOf (readPair p) ≡ stays
 unfolding readPair selected moveOf
 pair-stays p = go (on p 21 && eqb (p / 2 ^ 23) 0) (on p 20) (on p 22)
   where

@@ -33,7 +33,7 @@ use Rattle.rules.proofs.Earliest.{first-parts, failing-parts, ledgers-p
 use Rattle.rules.proofs.Closed.{ledgerClosed, failingClosed, ledger-closed, failing-closed}
 use Rattle.rules.proofs.Ledgers.{number-at, moved-on, failing-to, entered-with}
 use Rattle.rules.proofs.Taken.{passed, below-last, unmoved, rising, orderly, above-part, paid-through, paid-to-last, owing-good}
-use Rattle.rules.proofs.StepByList.{fresh-stands, ledger-is}
+use Rattle.rules.proofs.StepByList.{last-of-below, fresh-stands, ledger-is}
 use Rattle.rules.proofs.FileSteps.{next-small, no-more}
 use Rattle.rules.proofs.CardRead.{card-good}
 use Rattle.rules.proofs.Walks.{Judge, judgedBy, defined, defined-judged, Sized, Here, kept, agree}
@@ -93,11 +93,6 @@ unfolding NotBelow Above
 not-below [] t h = tt
 not-below (e ∷ p) t h = omega arith
 
-own-from-last : (past : Past) (t : ℕ) → AllBelow (suc t) past → lastCycle past ≤ t
-unfolding AllBelow lastCycle
-own-from-last [] t h = omega arith
-own-from-last (e ∷ p) t h = omega (arith, h .0)
-
 module _ (card : Card) (good : cardGood card ≡ true) where
   positive : 0 < beatOf card .span
   unfolding beatOf every
@@ -120,12 +115,12 @@ module _ (card : Card) (good : cardGood card ≡ true) where
     closed-at : (t : ℕ) → lastCycle past ≤ t → ledgerClosed (beatOf card) here t ≡ ledgerAt card own t
     closed-at t h =
         sym (ledger-closed (beatOf card) here positive owing-here t)
-        ∙ moved-on card own (lastCycle past) (own-from-last own (lastCycle past) below) below t h
+        ∙ moved-on card own (lastCycle past) (last-of-below own (lastCycle past) below) below t h
 
     failing-at : (t : ℕ) → lastCycle past ≤ t → failingClosed (beatOf card) here t ≡ firstOn lpddr3 (bookOf card own) t
     failing-at t h =
         sym (failing-closed (beatOf card) here positive owing-here t)
-        ∙ failing-to card own (lastCycle past) (own-from-last own (lastCycle past) below) below (paid-through card p i past all) t h
+        ∙ failing-to card own (lastCycle past) (last-of-below own (lastCycle past) below) below (paid-through card p i past all) t h
 
     -- an entry's own cycle
     then-at : (e : Entry) → Above past (e .stamp) →

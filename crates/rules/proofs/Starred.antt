@@ -241,7 +241,7 @@ unfolding opened Computes
 paired-computes =
     refl & refl & refl & refl & refl & refl & refl & refl & refl & refl & refl & refl & refl & refl & refl & refl & refl & refl & refl & refl &
     refl & refl & refl & refl & refl & refl & refl & refl & refl & refl & refl & refl & refl & refl & refl & refl & refl & refl & refl & refl &
-    refl & refl & refl & refl &
+    refl & refl & refl & refl & refl & refl &
     (refl, refl) & (refl, refl) & (refl, refl) & (refl, refl) & refl & tt
 
 pub starred-hold : Every Shown starred

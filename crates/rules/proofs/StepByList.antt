@@ -120,7 +120,7 @@ unfolding lastBy lastOf notBelow
 last-same [] t = refl
 last-same (e ∷ p) t = refl
 
-last-of-below : (own : Past) (t : ℕ) → AllBelow (suc t) own → lastCycle own ≤ t
+pub last-of-below : (own : Past) (t : ℕ) → AllBelow (suc t) own → lastCycle own ≤ t
 unfolding lastCycle AllBelow
 last-of-below [] t b = omega arith
 last-of-below (e ∷ own) t b = omega arith

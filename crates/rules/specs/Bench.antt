@@ -301,6 +301,9 @@ paired =
     judges (file (pair 2) [] 28_080) (refused 11 19 139 28_080) ∷
     judges (file (pair 2) (refab at₀ 100 ∷ []) 28_080) (refused 11 19 149 28_080) ∷
     judges (file (pair 2) (refab at₁ 100 ∷ nop at₀ 30_000 ∷ []) 30_000) (refused 11 19 149 28_080) ∷
+    -- the second part's, at an entry of the first and at one of neither
+    judges (file (pair 2) (refab at₀ 100 ∷ pre 0 at₀ 28_081 ∷ []) 28_081) (refused 11 19 149 28_080) ∷
+    judges (file (pair 2) (refab at₀ 100 ∷ nop at₀ 28_081 ∷ []) 28_081) (refused 11 19 149 28_080) ∷
     judges (file (pair 2) (refab at₀ 0 ∷ refab at₀ 3_119 ∷ refab at₁ 5_000 ∷ []) 31_199) (accepted 3 3 (pos 7 ∷ pos 8 ∷ [])) ∷
     judges (file (pair 2) (refab at₀ 0 ∷ refab at₀ 3_119 ∷ refab at₁ 5_000 ∷ []) 31_200) (refused 11 20 169 31_200) ∷
     judges (file (pair 2) (refab at₁ 0 ∷ refab at₁ 3_119 ∷ refab at₀ 5_000 ∷ []) 31_200) (refused 11 19 169 31_200) ∷
