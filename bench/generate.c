@@ -1,20 +1,21 @@
 /* Writes traces to standard output, the same for the same seed.
      generate KIND SEED [COUNT]   one trace; KIND is legal, sleeping (legal, with moves of clock-enable), paired (legal,
-                                  of two parts), perturbed, hostile or far; about COUNT entries (far goes past 200,000
-                                  refreshes to the last of the 32-bit cycles); a seed divisible by four takes the bench
-                                  card
-     generate --many N SEED       N traces of mixed kinds, a third of them with sleeps, a third of two parts, and every
-                                  cut of some, each behind its length (4 bytes, big-endian)
+                                  of two parts), heated (legal, with fields of tag 34), perturbed, hostile or far; about
+                                  COUNT entries (far goes past 200,000 refreshes to the last of the 32-bit cycles); a
+                                  seed divisible by four takes the bench card
+     generate --many N SEED       N traces of mixed kinds, a third of them with sleeps, a third of two parts, a
+                                  third, whatever else they have, with fields of tag 34, and every cut of some, each
+                                  behind its length (4 bytes, big-endian)
      generate --pick K            the K-th trace (from 1) of such a stream on standard input */
 #include "traces/faults.h"
 
-static void make(const char *kind, enum form form, uint64_t from, size_t count)
+static void make(const char *kind, struct form form, uint64_t from, size_t count)
 {
     bool bench = from % 4 == 0;
     seed = from;
     if (!strcmp(kind, "far")) {
-        if (form == SLEEPING)
-            far_asleep(bench, count);
+        if (form.sleeps)
+            far_asleep(bench, form, count);
         else
             far(form);
         serialize();
@@ -50,6 +51,15 @@ static void write_framed(size_t n)
     write_bytes(bytes.p, n);
 }
 
+static struct form some_form(void)
+{
+    int64_t which = below(3);
+    struct form form = {.sleeps = which == 1, .two = which == 2};
+    form.warms = one_in(2); /* where a trace is too short none is laid: with the cuts a third of all have fields */
+    form.heats = one_in(form.warms ? 2 : 20);
+    return form;
+}
+
 static void many(uint64_t n, uint64_t from)
 {
     static const char *const kinds[] = {"legal",     "legal",     "legal",   "perturbed", "perturbed",
@@ -63,10 +73,12 @@ static void many(uint64_t n, uint64_t from)
                        : one_in(50) ? between(100, 1000)
                        : one_in(3)  ? below(100)
                                     : below(20);
-        enum form form = (enum form)below(3);
-        if (i % 25000 == 8)
-            form = i % 50000 == 8 ? PLAIN : PAIRED;
-        if (i % 25000 == 8 || (form == SLEEPING && one_in(40)))
+        struct form form = some_form();
+        if (i % 25000 == 8) {
+            form.sleeps = false;
+            form.two = i % 50000 != 8;
+        }
+        if (i % 25000 == 8 || (form.sleeps && one_in(40)))
             kind = "far";
         make(kind, form, own, count);
         write_framed(bytes.n);
@@ -94,7 +106,7 @@ static int pick(uint64_t k)
 
 static int usage(void)
 {
-    fprintf(stderr, "usage: generate legal|sleeping|paired|perturbed|hostile|far SEED [COUNT]\n"
+    fprintf(stderr, "usage: generate legal|sleeping|paired|heated|perturbed|hostile|far SEED [COUNT]\n"
                     "       generate --many N SEED\n"
                     "       generate --pick K\n");
     return 2;
@@ -112,8 +124,11 @@ int main(int argc, char **argv)
     else if (!strcmp(kind, "--pick") && argc == 3)
         status = pick(a);
     else if (!strcmp(kind, "legal") || !strcmp(kind, "sleeping") || !strcmp(kind, "paired") ||
-             !strcmp(kind, "perturbed") || !strcmp(kind, "hostile") || !strcmp(kind, "far")) {
-        make(kind, !strcmp(kind, "sleeping") ? SLEEPING : !strcmp(kind, "paired") ? PAIRED : PLAIN, a, b);
+             !strcmp(kind, "heated") || !strcmp(kind, "perturbed") || !strcmp(kind, "hostile") ||
+             !strcmp(kind, "far")) {
+        bool heated = !strcmp(kind, "heated");
+        struct form form = {!strcmp(kind, "sleeping"), !strcmp(kind, "paired"), heated, heated};
+        make(kind, form, a, b);
         write_bytes(bytes.p, bytes.n);
     } else
         return usage();

@@ -165,15 +165,15 @@ static inline void line(uint32_t stamp, enum kind k, unsigned bank, enum ending 
     out.n = (size_t)(p - out.buf) + t->length;
 }
 
-static void refused(unsigned number, unsigned rule, uint64_t cycle)
+static void refused(unsigned number, unsigned rule, int64_t cycle)
 {
     if (ROOM - out.n < 128)
         flush();
-    out.n += (size_t)snprintf(out.buf + out.n, 128, "refused %u %u %" PRIu64 " %" PRIu64 "\n", number, rule,
+    out.n += (size_t)snprintf(out.buf + out.n, 128, "refused %u %u %" PRIu64 " %" PRId64 "\n", number, rule,
                               in.offset, cycle);
 }
 
-static void accepted(const struct record *part, uint64_t last)
+static void accepted(const struct record *part, int64_t last)
 {
     uint64_t commands = part[0].commands, refreshes = part[0].refreshes;
     char second[32] = "";
@@ -224,6 +224,10 @@ static bool read_value(struct card *c, unsigned tag, const uint8_t *p)
         c->two = true;
         c->gap = *p;
         return !c->sleeps;
+    case 26:
+        c->heats = true;
+        c->heat = big(p, 4);
+        return c->heat <= 1000000;
     default:
         c->ps[tag - 5] = big(p, 4);
         c->floor[tag - 5] = p[4];
@@ -238,7 +242,7 @@ static unsigned next_tag(unsigned tag)
     unsigned found = have(1) ? in.buf[in.at] : 0;
     if (tag < 18 || (tag > 18 && tag < 22) || (tag == 18 && found == 19))
         return tag + 1;
-    return tag < 25 && found == 25 ? 25 : 0;
+    return tag < found && (found == 25 || found == 26) ? found : 0;
 }
 
 static bool read_card(struct card *c)
@@ -246,7 +250,7 @@ static bool read_card(struct card *c)
     static const uint8_t lengths[] = {4, 1, 2, 4};
     memset(c, 0, sizeof *c);
     for (unsigned tag = 1; tag; tag = next_tag(tag)) {
-        unsigned length = tag <= 4 ? lengths[tag - 1] : tag == 25 ? 1 : 5;
+        unsigned length = tag <= 4 ? lengths[tag - 1] : tag == 25 ? 1 : tag == 26 ? 4 : 5;
         bool fits = have(1) && in.buf[in.at] == tag;
         unsigned number = head(fits, length);
         if (!number && !read_value(c, tag, in.buf + in.at + 3))
@@ -295,6 +299,35 @@ static bool entries(struct record *part, bool lines)
     return part->card.two ? entries_of(part, true, lines) : entries_of(part, false, lines);
 }
 
+/* The end, whole at hand. */
+static void judge_end(const struct record *part)
+{
+    uint32_t last = big(in.buf + in.at + 3, 4);
+    struct refusal no;
+    if (!finish(part, last, &no)) {
+        refused(no.number, no.rule, no.cycle);
+        return;
+    }
+    take(7);
+    if (have(1))
+        refused(12, 0, 0);
+    else
+        accepted(part, last);
+}
+
+/* A field of tag 34, whole at hand. False: it was refused, and the verdict is out. */
+static bool temperature(struct record *part)
+{
+    const uint8_t *p = in.buf + in.at;
+    struct refusal no;
+    if (!step_field(part, big(p + 3, 4), p[7], &no)) {
+        refused(no.number, no.rule, no.cycle);
+        return false;
+    }
+    take(8);
+    return true;
+}
+
 static void judge(bool lines)
 {
     struct card card;
@@ -306,26 +339,20 @@ static void judge(bool lines)
     while (entries(part, lines)) {
         size_t n = have(ENTRY);
         const uint8_t *p = in.buf + in.at;
-        if (n >= ENTRY && p[0] == 32 && big(p + 1, 2) == 7)
+        unsigned tag = n ? p[0] : 0;
+        if (n >= ENTRY && tag == 32 && big(p + 1, 2) == 7)
             continue;
-        bool entry = n && p[0] == 32;
-        unsigned number = head(n && (entry || p[0] == 33), entry ? 7 : 4);
+        unsigned number = head(tag >= 32 && tag <= 34, tag == 32 ? 7 : tag == 34 ? 5 : 4);
         if (number) {
             refused(number, 0, 0);
             return;
         }
-        uint32_t last = big(in.buf + in.at + 3, 4);
-        struct refusal no;
-        if (!finish(part, last, &no)) {
-            refused(no.number, no.rule, no.cycle);
+        if (tag == 33) {
+            judge_end(part);
             return;
         }
-        take(7);
-        if (have(1))
-            refused(12, 0, 0);
-        else
-            accepted(part, last);
-        return;
+        if (!temperature(part))
+            return;
     }
 }
 

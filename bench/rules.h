@@ -41,6 +41,8 @@ struct card {
     bool sleeps; /* tags 19 to 22 are there */
     bool two;    /* tag 25 is there */
     uint8_t gap;
+    bool heats;    /* tag 26 is there */
+    uint32_t heat; /* 0 where it is not */
     uint32_t ps[TIMINGS];
     uint8_t floor[TIMINGS];
 };
@@ -93,57 +95,99 @@ static inline unsigned bank_bits(uint32_t pins) { return pins >> 7 & 7; }
 static inline unsigned ma_bits(uint32_t pins) { return pins >> 4 & 255; }
 static inline unsigned op_bits(uint32_t pins) { return pins >> 12 & 255; }
 
-/* rN is the first cycle that rule N permits, counted from the latest entry it names; 0 where there is none.
+/* Cycles are signed: from this one no delay reaches cycle 0. */
+#define NEVER (-(INT64_C(1) << 32))
+
+/* rN is the first cycle that rule N permits, counted from the latest entry it names; not above 0 where there is none.
    Read and write rules stand in pairs, the read's first. r5 serves rule 5 or 6, whichever precharge says. */
 struct bank {
-    uint64_t r4, r5, r7, r8, r9;
-    uint64_t r15_17[2], r16_18[3]; /* [2] is never asked */
-    uint64_t act10, ref10;
+    int64_t r4, r5, r7, r8, r9;
+    int64_t r15_17[2], r16_18[3]; /* [2] is never asked */
+    int64_t act10, ref10;
     unsigned precharge;
+};
+
+static const struct bank unused = {
+    .r5 = NEVER,
+    .r7 = NEVER,
+    .r8 = NEVER,
+    .r9 = NEVER,
+    .r16_18 = {NEVER, NEVER},
+    .act10 = NEVER,
+    .ref10 = NEVER,
+    .precharge = 5,
+};
+
+/* The delays that heat moves. */
+struct warm {
+    int64_t rcd, rppb, rpab, ras, rc, rrd;
 };
 
 /* What one part's entries leave behind. A trace of two parts has two of them, side by side. */
 struct record {
-    uint64_t next; /* least stamp an entry may have, to whichever part */
-    uint64_t fail; /* first cycle that fails without another counted refresh */
-    uint64_t gate; /* greatest of r1, r2, r3, r22, r24 */
-    uint64_t r1, r2, r3, r4;
-    uint64_t r12[2]; /* to a read, to a write */
-    uint64_t r14_13[2];
-    uint64_t recent; /* latest ACT or REFpb, plus tRRD */
-    uint64_t r11[4]; /* the four latest ACT or REFpb, plus tFAW; the oldest at [oldest] */
+    int64_t next; /* least stamp an entry, to whichever part, or a field may have */
+    int64_t fail; /* first cycle that fails if neither a counted refresh nor a field comes */
+    int64_t gate; /* greatest of r1, r2, r3, r22, r24 */
+    int64_t r1, r2, r3, r4;
+    int64_t r12[2]; /* to a read, to a write */
+    int64_t r14_13[2];
+    int64_t recent; /* latest ACT or REFpb, plus tRRD */
+    int64_t r11[4]; /* the four latest ACT or REFpb, plus tFAW; the oldest at [oldest] */
     unsigned oldest;
     unsigned open; /* one bit a bank */
     unsigned counter;
     unsigned fail_rule;
     unsigned steady; /* bits 21 to 23 of an entry that neither moves clock-enable nor stands asleep */
     enum level level;
-    uint64_t fall; /* latest fall of clock-enable */
-    uint64_t r21, r22, r24;
-    uint64_t skipped; /* uncounted cycles through the latest self-refresh exit */
-    uint64_t kept; /* fail at the latest fall, while nothing fails */
-    uint64_t cke, xp, ckesr, xsr;
-    uint64_t rcd, rppb, rpab, ras, rc, rrd, faw, rfcab, rfcpb, mrr, mrw;
-    uint64_t turn[2], to_pre[2]; /* read to write, write to read; to PRE; under the MR2 in force */
+    int64_t fall; /* latest fall of clock-enable */
+    int64_t r21, r22, r24;
+    int64_t kept; /* fail, while nothing fails */
+    int64_t cke, xp, ckesr, xsr;
+    struct warm warm;
+    int64_t faw, rfcab, rfcpb, mrr, mrw;
+    int64_t turn[2], to_pre[2]; /* read to write, write to read; to PRE; under the MR2 in force */
     uint64_t commands, refreshes;
-    int64_t ledger; /* after the last counted refresh */
-    uint64_t dues;  /* multiples of the interval through that refresh, over the counted cycles */
-    uint64_t interval;
+    int64_t interval;
+    int64_t origin; /* dues fall whole intervals after it; it moves on by the cycles that are not counted */
+    int64_t ledger; /* after the last counted refresh or field */
+    int64_t dues;   /* from the origin through that one */
     struct bank bank[8];
     struct card card;
 };
 
 struct refusal {
     unsigned number, rule;
-    uint64_t cycle;
+    int64_t cycle;
 };
 
 INLINE unsigned is_write(enum kind k) { return k == WR || k == WRA; }
 
-static inline uint64_t clocks(const struct card *c, uint64_t ps, uint64_t floor)
+static inline int64_t clocks(const struct card *c, int64_t ps, int64_t floor)
 {
-    uint64_t n = (ps + c->period - 1) / c->period;
+    int64_t n = (ps + c->period - 1) / c->period;
     return n > floor ? n : floor;
+}
+
+static inline struct warm warm_by(const struct card *c, int64_t ps)
+{
+    int64_t rc = (int64_t)c->ps[tRAS] + c->ps[tRPpb] + 2 * ps;
+    return (struct warm){
+        .rcd = clocks(c, c->ps[tRCD] + ps, c->floor[tRCD]),
+        .rppb = clocks(c, c->ps[tRPpb] + ps, c->floor[tRPpb]),
+        .rpab = clocks(c, c->ps[tRPab] + ps, c->floor[tRPab]),
+        .ras = clocks(c, c->ps[tRAS] + ps, c->floor[tRAS]),
+        .rc = clocks(c, rc, c->floor[tRAS] + c->floor[tRPpb]),
+        .rrd = clocks(c, c->ps[tRRD] + ps, c->floor[tRRD]),
+    };
+}
+
+/* Quarters of tREFI by OP2-0 of MR4; 0: not permitted. */
+static const uint8_t quarters[8] = {0, 16, 8, 4, 2, 1, 1, 0};
+
+static inline int64_t interval_of(const struct card *c, unsigned mr4)
+{
+    int64_t n = (int64_t)c->refi * quarters[mr4 & 7] / (4 * (int64_t)c->period);
+    return n > 1 ? n : 1;
 }
 
 static inline void set_mr2(struct record *r, uint8_t mr2)
@@ -158,41 +202,48 @@ static inline void set_mr2(struct record *r, uint8_t mr2)
 
 INLINE bool uncounted(enum level l) { return l == SELF_REFRESH || l == DEEP; }
 
-static inline void count_refresh(struct record *r, uint64_t t)
+/* The last counted refresh, or the latest field, was at this cycle. */
+static inline void set_fail(struct record *r, int64_t from)
 {
-    uint64_t dues = (t - r->skipped) / r->interval;
-    int64_t ledger = r->ledger + (int64_t)(dues - r->dues) - 1;
-    r->ledger = ledger < -8 ? -8 : ledger;
-    r->dues = dues;
-    r->refreshes++;
-    uint64_t fail19 = (dues + (uint64_t)(9 - r->ledger)) * r->interval + r->skipped;
-    uint64_t fail20 = t + 9 * r->interval + 1;
+    int64_t fail19 = r->origin + (r->dues + 9 - r->ledger) * r->interval;
+    int64_t fail20 = from + 9 * r->interval + 1;
     r->fail = fail19 <= fail20 ? fail19 : fail20;
     r->fail_rule = fail19 <= fail20 ? 19 : 20;
 }
 
-static inline int64_t ledger_at(const struct record *r, uint64_t t)
+static inline void count_refresh(struct record *r, int64_t t)
 {
-    uint64_t counted = (uncounted(r->level) ? r->fall : t) - r->skipped;
-    return r->ledger + (int64_t)(counted / r->interval - r->dues);
+    int64_t dues = (t - r->origin) / r->interval;
+    int64_t ledger = r->ledger + dues - r->dues - 1;
+    r->ledger = ledger < -8 ? -8 : ledger;
+    r->dues = dues;
+    r->refreshes++;
+    set_fail(r, t);
+}
+
+/* The last counted cycle up to t. */
+static inline int64_t counted(const struct record *r, int64_t t) { return uncounted(r->level) ? r->fall : t; }
+
+static inline int64_t ledger_at(const struct record *r, int64_t t)
+{
+    return r->ledger + (counted(r, t) - r->origin) / r->interval - r->dues;
 }
 
 static inline void begin(struct record *r, const struct card *c)
 {
     memset(r, 0, sizeof *r);
     r->card = *c;
+    r->recent = r->r12[0] = r->r12[1] = r->r14_13[0] = r->r14_13[1] = NEVER;
     for (int b = 0; b < 8; b++)
-        r->bank[b].precharge = 5;
-    uint64_t n[TIMINGS];
+        r->bank[b] = unused;
+    int64_t n[TIMINGS];
     for (int i = 0; i < TIMINGS; i++)
         n[i] = clocks(c, c->ps[i], c->floor[i]);
-    r->rcd = n[tRCD], r->rppb = n[tRPpb], r->rpab = n[tRPab], r->ras = n[tRAS];
-    r->rrd = n[tRRD], r->faw = n[tFAW], r->rfcab = n[tRFCab], r->rfcpb = n[tRFCpb];
-    r->mrr = n[tMRR], r->mrw = n[tMRW];
+    r->warm = warm_by(c, 0);
+    r->faw = n[tFAW], r->rfcab = n[tRFCab], r->rfcpb = n[tRFCpb], r->mrr = n[tMRR], r->mrw = n[tMRW];
     r->cke = n[tCKE], r->xp = n[tXP], r->ckesr = n[tCKESR], r->xsr = n[tXSR];
     r->steady = 1;
     r->to_pre[0] = n[tRTP] > 4 ? n[tRTP] : 4;
-    r->rc = clocks(c, (uint64_t)c->ps[tRAS] + c->ps[tRPpb], (uint64_t)c->floor[tRAS] + c->floor[tRPpb]);
     r->interval = c->refi / c->period;
     r->fail = 9 * r->interval;
     r->fail_rule = 19;
@@ -207,16 +258,16 @@ static inline void begin(struct record *r, const struct card *c)
         }                     \
     } while (0)
 
-static inline void raise_to(uint64_t *a, uint64_t b)
+static inline void raise_to(int64_t *a, int64_t b)
 {
     if (*a < b)
         *a = b;
 }
 
 /* Rule 10: the latest ACT, and for an ACT the latest REFpb too, to another bank. */
-static uint64_t other_banks(const struct record *r, unsigned bank, bool act)
+static int64_t other_banks(const struct record *r, unsigned bank, bool act)
 {
-    uint64_t c = 0;
+    int64_t c = 0;
     for (unsigned b = 0; b < 8; b++)
         if (b != bank) {
             raise_to(&c, r->bank[b].act10);
@@ -227,9 +278,9 @@ static uint64_t other_banks(const struct record *r, unsigned bank, bool act)
 }
 
 /* The rules that speak for a command naming every bank: idle use, or PRE-all. */
-static unsigned ask_all(const struct record *r, enum kind k, uint64_t t, uint64_t *first)
+static unsigned ask_all(const struct record *r, enum kind k, int64_t t, int64_t *first)
 {
-    uint64_t c[19] = {0};
+    int64_t c[19] = {0};
     c[4] = r->r4;
     for (unsigned i = 0; i < 8; i++) {
         const struct bank *b = &r->bank[i];
@@ -250,7 +301,7 @@ static unsigned ask_all(const struct record *r, enum kind k, uint64_t t, uint64_
 }
 
 /* Rules 4 to 18. */
-INLINE unsigned ask_rest(const struct record *r, enum kind k, unsigned bank, uint64_t t, uint64_t *first)
+INLINE unsigned ask_rest(const struct record *r, enum kind k, unsigned bank, int64_t t, int64_t *first)
 {
     const struct bank *b = &r->bank[bank];
     switch (k) {
@@ -290,7 +341,7 @@ INLINE unsigned ask_rest(const struct record *r, enum kind k, unsigned bank, uin
 
 /* All rules, of a command other than NOP, where one that asks every such command is broken; 21 is asked of falls only. */
 static __attribute__((noinline)) unsigned ask_gate(const struct record *r, enum kind k, unsigned bank, bool falls,
-                                                   uint64_t t, uint64_t *first)
+                                                   int64_t t, int64_t *first)
 {
     ASK(1, r->r1);
     ASK(2, r->r2);
@@ -306,7 +357,7 @@ static __attribute__((noinline)) unsigned ask_gate(const struct record *r, enum 
 }
 
 /* The lowest rule that k at t breaks, with its first permitted cycle; 0: none. */
-INLINE unsigned ask(const struct record *r, enum kind k, unsigned bank, uint64_t t, uint64_t *first)
+INLINE unsigned ask(const struct record *r, enum kind k, unsigned bank, int64_t t, int64_t *first)
 {
     if (k == NOP)
         return 0;
@@ -315,21 +366,19 @@ INLINE unsigned ask(const struct record *r, enum kind k, unsigned bank, uint64_t
     return ask_rest(r, k, bank, t, first);
 }
 
-INLINE uint64_t raised(uint64_t cycle, uint64_t gap) { return cycle ? cycle + gap : 0; }
-
 /* Rules 25 to 27: what the other part had on the bus last, with the delays of its own 12 to 14 raised by the gap. */
-INLINE unsigned ask_bus(const struct record *other, enum kind k, uint64_t t, uint64_t *first)
+INLINE unsigned ask_bus(const struct record *other, enum kind k, int64_t t, int64_t *first)
 {
     unsigned w = is_write(k);
     if (k != MRR && (k < RD || k > WRA))
         return 0;
-    ASK(25, raised(other->r12[w], other->card.gap));
-    ASK(27 - w, raised(other->r14_13[w], other->card.gap));
+    ASK(25, other->r12[w] + other->card.gap);
+    ASK(27 - w, other->r14_13[w] + other->card.gap);
     return 0;
 }
 
 /* Likewise for a fall to this level: self-refresh and deep power-down have the delays of a REFab. */
-static unsigned ask_fall(const struct record *r, enum level to, uint64_t t, uint64_t *first)
+static unsigned ask_fall(const struct record *r, enum level to, int64_t t, int64_t *first)
 {
     if (to != POWER_DOWN)
         return ask_gate(r, REFAB, 0, true, t, first);
@@ -337,7 +386,7 @@ static unsigned ask_fall(const struct record *r, enum level to, uint64_t t, uint
     return 0;
 }
 
-static unsigned ask_rise(const struct record *r, uint64_t t, uint64_t *first)
+static unsigned ask_rise(const struct record *r, int64_t t, int64_t *first)
 {
     ASK(21, r->fall + r->cke);
     if (r->level == SELF_REFRESH)
@@ -364,14 +413,14 @@ INLINE bool state_permits(const struct record *r, enum kind k, unsigned bank)
     }
 }
 
-static inline void note_activation(struct record *r, uint64_t t)
+static inline void note_activation(struct record *r, int64_t t)
 {
-    r->recent = t + r->rrd;
+    r->recent = t + r->warm.rrd;
     r->r11[r->oldest] = t + r->faw;
     r->oldest = (r->oldest + 1) & 3;
 }
 
-INLINE void note(struct record *r, enum kind k, unsigned bank, uint32_t pins, uint64_t t)
+INLINE void note(struct record *r, enum kind k, unsigned bank, uint32_t pins, int64_t t)
 {
     struct bank *b = &r->bank[bank];
     unsigned w = is_write(k), ap = k == RDA || k == WRA;
@@ -379,10 +428,10 @@ INLINE void note(struct record *r, enum kind k, unsigned bank, uint32_t pins, ui
     switch (k) {
     case ACT:
         r->open |= 1u << bank;
-        b->r7 = t + r->rcd;
-        b->r8 = t + r->ras;
-        b->r9 = t + r->rc;
-        b->act10 = t + r->rrd;
+        b->r7 = t + r->warm.rcd;
+        b->r8 = t + r->warm.ras;
+        b->r9 = t + r->warm.rc;
+        b->act10 = t + r->warm.rrd;
         note_activation(r, t);
         break;
     case RD:
@@ -392,24 +441,24 @@ INLINE void note(struct record *r, enum kind k, unsigned bank, uint32_t pins, ui
         r->r12[w] = t + 4;
         r->r14_13[1 - w] = t + r->turn[w];
         b->r15_17[w] = t + r->to_pre[w];
-        b->r16_18[ap ? w : 2] = t + r->to_pre[w] + r->rppb;
+        b->r16_18[ap ? w : 2] = t + r->to_pre[w] + r->warm.rppb;
         r->open &= ~(ap << bank);
         break;
     case PRE:
         r->open &= ~(1u << bank);
-        b->r5 = t + r->rppb;
+        b->r5 = t + r->warm.rppb;
         b->precharge = 5;
         break;
     case PREA:
         r->open = 0;
         for (int i = 0; i < 8; i++) {
-            r->bank[i].r5 = t + r->rpab;
+            r->bank[i].r5 = t + r->warm.rpab;
             r->bank[i].precharge = 6;
         }
         break;
     case REFPB:
         b->r4 = r->r4 = t + r->rfcpb;
-        b->ref10 = t + r->rrd;
+        b->ref10 = t + r->warm.rrd;
         note_activation(r, t);
         if (r->counter == 7)
             count_refresh(r, t);
@@ -456,23 +505,28 @@ static inline enum level falls_to(uint32_t pins)
     }
 }
 
-static inline void note_fall(struct record *r, enum level to, uint64_t t)
+/* Nothing fails until counted cycles come again. */
+static inline void hold(struct record *r)
+{
+    r->kept = r->fail;
+    r->fail = INT64_MAX;
+}
+
+static inline void note_fall(struct record *r, enum level to, int64_t t)
 {
     r->level = to;
     r->fall = t;
     r->steady = 8;
-    if (uncounted(to)) {
-        r->kept = r->fail;
-        r->fail = UINT64_MAX;
-    }
+    if (uncounted(to))
+        hold(r);
 }
 
 /* What would have failed fails later by the cycles that were not counted. */
-static inline void note_rise(struct record *r, uint64_t t)
+static inline void note_rise(struct record *r, int64_t t)
 {
     r->r21 = t + r->cke;
     if (r->level == SELF_REFRESH) {
-        r->skipped += t - r->fall;
+        r->origin += t - r->fall;
         r->fail = r->kept + (t - r->fall);
         r->counter = 0;
         r->r24 = t + r->xsr;
@@ -486,11 +540,11 @@ static inline void note_rise(struct record *r, uint64_t t)
 }
 
 /* An entry with clock-enable low, or asleep, or with bits 22 and 23 wrong, once its stamp is good. */
-static __attribute__((noinline)) bool step_moved(struct record *r, uint64_t t, uint32_t pins, struct refusal *no)
+static __attribute__((noinline)) bool step_moved(struct record *r, int64_t t, uint32_t pins, struct refusal *no)
 {
     bool high = pins >> 21 & 1, falls = r->level == AWAKE;
     enum level to = falls_to(pins);
-    uint64_t first = 0;
+    int64_t first = 0;
     unsigned rule = 0;
     *no = (struct refusal){0, 0, 0};
     if (!r->card.sleeps || pins >> 22)
@@ -522,7 +576,7 @@ INLINE const struct record *first_failing(const struct record *part, bool two)
 }
 
 /* The part whose account fails at t, if this one is refreshed there; null: none. */
-INLINE const struct record *failing_at(const struct record *part, bool two, const struct record *refreshed, uint64_t t)
+INLINE const struct record *failing_at(const struct record *part, bool two, const struct record *refreshed, int64_t t)
 {
     if (part[0].fail == t && refreshed != part)
         return part;
@@ -530,7 +584,7 @@ INLINE const struct record *failing_at(const struct record *part, bool two, cons
 }
 
 /* The rest of a step once its kind is known; inlined once a kind, so that one jump decides it all. */
-INLINE bool step_kind(struct record *part, bool two, unsigned p, enum kind k, unsigned bank, uint64_t t,
+INLINE bool step_kind(struct record *part, bool two, unsigned p, enum kind k, unsigned bank, int64_t t,
                       uint32_t pins, struct refusal *no)
 {
     struct record *r = part + p;
@@ -551,7 +605,7 @@ INLINE bool step_kind(struct record *part, bool two, unsigned p, enum kind k, un
         *no = (struct refusal){9, 0, 0};
         return false;
     }
-    uint64_t first;
+    int64_t first;
     unsigned rule = ask(r, k, bank, t, &first);
     if (two && !rule)
         rule = ask_bus(part + !p, k, t, &first);
@@ -573,7 +627,7 @@ INLINE bool step_kind(struct record *part, bool two, unsigned p, enum kind k, un
 
 /* An entry of kind k to part p, with the pins as that part sees them. True: accepted and noted. False: refused, the
    records as they were. */
-INLINE bool step(struct record *part, bool two, unsigned p, enum kind k, unsigned bank, uint64_t t, uint32_t pins,
+INLINE bool step(struct record *part, bool two, unsigned p, enum kind k, unsigned bank, int64_t t, uint32_t pins,
                  struct refusal *no)
 {
     const struct record *failing = first_failing(part, two);
@@ -602,8 +656,64 @@ INLINE bool step(struct record *part, bool two, unsigned p, enum kind k, unsigne
     }
 }
 
+/* Delays are as they stand at the later entry, so what earlier ones left behind moves along. */
+static inline void set_warm(struct record *r, struct warm to)
+{
+    struct warm from = r->warm;
+    for (struct bank *b = r->bank; b < r->bank + 8; b++) {
+        b->r5 += b->precharge == 5 ? to.rppb - from.rppb : to.rpab - from.rpab;
+        b->r7 += to.rcd - from.rcd;
+        b->r8 += to.ras - from.ras;
+        b->r9 += to.rc - from.rc;
+        b->r16_18[0] += to.rppb - from.rppb;
+        b->r16_18[1] += to.rppb - from.rppb;
+        b->act10 += to.rrd - from.rrd;
+        b->ref10 += to.rrd - from.rrd;
+    }
+    r->recent += to.rrd - from.rrd;
+    r->warm = to;
+}
+
+static inline void note_field(struct record *r, int64_t t, unsigned mr4)
+{
+    int64_t from = counted(r, t), interval = interval_of(&r->card, mr4), dues = (from - r->origin) / r->interval;
+    int64_t old = r->origin + (dues + 1) * r->interval, due = from + interval;
+    r->ledger += dues - r->dues;
+    r->dues = 0;
+    r->origin = (old < due ? old : due) - interval;
+    r->interval = interval;
+    set_fail(r, from);
+    if (uncounted(r->level))
+        hold(r);
+    set_warm(r, warm_by(&r->card, (mr4 & 7) == 6 ? r->card.heat : 0));
+    r->next = t + 1;
+}
+
+/* A field of tag 34. Its own cycle ends the gap of rule 20. True: taken. */
+static bool step_field(struct record *part, int64_t t, unsigned mr4, struct refusal *no)
+{
+    bool two = part->card.two;
+    const struct record *failing = first_failing(part, two);
+    *no = (struct refusal){0, 0, 0};
+    if (t < part->next)
+        no->number = 5;
+    else if (t > failing->fail)
+        *no = (struct refusal){11, failing->fail_rule, failing->fail};
+    else if (part->level == DEEP)
+        no->number = 16;
+    else if (!quarters[mr4 & 7])
+        no->number = 26;
+    else
+        for (unsigned p = 0; p <= two; p++)
+            if (part[p].fail == t && part[p].fail_rule == 19)
+                *no = (struct refusal){11, 19, t};
+    for (unsigned p = 0; p <= two && !no->number; p++)
+        note_field(part + p, t, mr4);
+    return !no->number;
+}
+
 /* True: the trace may end at this cycle. */
-static inline bool finish(const struct record *part, uint64_t end, struct refusal *no)
+static inline bool finish(const struct record *part, int64_t end, struct refusal *no)
 {
     const struct record *failing = first_failing(part, part->card.two);
     *no = (struct refusal){0, 0, 0};

@@ -50,7 +50,7 @@ function hold_field(    k) {
     for (k = 1; k <= held; k++)
         print named[k]
     held = 0
-    mode = mode_behind(last)
+    mode = mode_behind(last, mode)
 }
 
 function put_raw(comment) {

@@ -1,14 +1,16 @@
 # The form of a trace: the card's fields by tag, commands and moves of clock-enable on the pins, a field as text. Document 01, "The file" and "Commands on the
-# pins"; document 02, One and Nine.
+# pins"; document 02, One, Nine and Eleven.
 # Numbers of 32 bits are printed by %.0f: %d stops at 2^31 - 1 in some awks.
 
 BEGIN {
     group(1, "period mr2 groups trefi trcd trppb trpab tras trrd tfaw trtp twr twtr tdqsck trfcab trfcpb tmrr tmrw")
     group(19, "tcke txp tckesr txsr")
     group(25, "gap")
-    SIZE[1] = 4; SIZE[2] = 1; SIZE[3] = 2; SIZE[4] = 4; SIZE[25] = 1
+    group(26, "raise")
+    SIZE[1] = 4; SIZE[2] = 1; SIZE[3] = 2; SIZE[4] = 4; SIZE[25] = 1; SIZE[26] = 4
     ENTRY = 32; SIZE[ENTRY] = 7
     LAST = 33; SIZE[LAST] = 4
+    HEAT = 34; SIZE[HEAT] = 5
 
     POW[0] = 1
     for (k = 1; k <= 24; k++)
@@ -39,6 +41,13 @@ BEGIN {
     for (name in MOVE)
         TAKES[name] = ""
     MOST["bank"] = 7; MOST["row"] = 32767; MOST["col"] = 4095; MOST["ma"] = MOST["op"] = 255; MOST["part"] = 1
+
+    # by OP2-0 of MR4: the interval in quarters of tREFI, and what a comment says of it
+    QUARTERS[1] = 16; QUARTERS[2] = 8; QUARTERS[3] = 4; QUARTERS[4] = 2; QUARTERS[5] = QUARTERS[6] = 1
+    RATE[1] = "tREFI * 4"; RATE[2] = "tREFI * 2"; RATE[3] = "tREFI"; RATE[4] = "tREFI / 2"; RATE[5] = RATE[6] = "tREFI / 4"
+    # what is raised besides by code 110
+    HOT = 6
+    RAISED = "trcd trppb trpab tras trrd"
 }
 
 # Names the card's tags from `first` on, which come all or not at all; those from 1 on must come. GROUP has the first tag of each one's group, ENDS the last
@@ -59,13 +68,13 @@ function group(first, names,    name, n, k) {
 function may_follow(last, tag) {
     if (last < ENTRY && !(last in ENDS))
         return tag == last + 1
-    return tag == ENTRY || tag == LAST || tag > last && (tag in GROUP) && GROUP[tag] == tag
+    return tag == ENTRY || tag == LAST || tag == HEAT || tag > last && (tag in GROUP) && GROUP[tag] == tag
 }
 
-# How the pins behind a card are read that ends with tag `last`: of "one" part that never sleeps; of one that may, by clock-enable before the entry, "high" or
-# "low"; of "two" parts.
-function mode_behind(last) {
-    return last >= TAG["gap"] ? "two" : last >= TAG["tcke"] ? "high" : "one"
+# How pins are read behind a card that ends with this tag, where without it they were read as `mode`: of "one" part that never sleeps; of one that may, by
+# clock-enable before the entry, "high" or "low"; of "two" parts.
+function mode_behind(tag, mode) {
+    return tag >= TAG["raise"] ? mode : tag >= TAG["gap"] ? "two" : tag >= TAG["tcke"] ? "high" : "one"
 }
 
 # How they are read behind an entry with these pins.
@@ -195,6 +204,15 @@ function pins_text(p, mode,    name, v, text, note, wrong) {
     return text (note == "" ? "" : "  # " note)
 }
 
+# What a temperature field sets, by its code.
+function rate_text(code,    names) {
+    if (!(code in RATE))
+        return "OP2-0 " (code ? "111" : "000") ": no rate"
+    names = RAISED
+    gsub(/ /, ", ", names)
+    return RATE[code] (code == HOT ? "; raise on " names : "")
+}
+
 # The number in count bytes of b, the highest first.
 function number_at(b, from, count,    x) {
     x = 0
@@ -213,6 +231,8 @@ function field_text(b, mode,    tag) {
     tag = b[1]
     if (tag == ENTRY)
         return sprintf("%.0f ", number_at(b, 4, 4)) pins_text(number_at(b, 8, 3), mode)
+    if (tag == HEAT)
+        return sprintf("%.0f MR4 0x%02x  # %s", number_at(b, 4, 4), b[8], rate_text(b[8] % 8))
     if (tag == LAST)
         return sprintf("end %.0f", number_at(b, 4, 4))
     if (NAME[tag] == "mr2")

@@ -123,7 +123,7 @@ function set_value(tag, first, second,    size) {
 }
 
 # Puts the card, before the first line that is none of it.
-function begin(    tag, last, missing) {
+function begin(    tag, missing) {
     begun = 1
     mode = UNKNOWN
     if (!carded && tolower($1) == "raw" && NF > 0)
@@ -135,9 +135,8 @@ function begin(    tag, last, missing) {
         if (!(tag in value))
             missing = missing " " NAME[tag]
         put(octal(tag, 1) octal(SIZE[tag], 2) value[tag])
-        last = tag
+        mode = mode_behind(tag, mode)
     }
-    mode = mode_behind(last)
     if (missing != "")
         bad("the card lacks" missing)
 }
@@ -159,6 +158,10 @@ function entry_line(    stamp, name, pins) {
     behind = "entry"
     stamp = number($1, 4294967295, "stamp")
     name = toupper($2)
+    if (name == "MR4") {
+        heat_line(stamp)
+        return
+    }
     if (name == "PINS") {
         pins = number($3, 16777215, "pins")
         no_more(3)
@@ -171,6 +174,15 @@ function entry_line(    stamp, name, pins) {
     put(octal(ENTRY, 1) octal(SIZE[ENTRY], 2) octal(stamp, 4) octal(pins, 3))
     if (level_good(name))
         mode = mode_after(pins, mode)
+}
+
+# A temperature field. It leaves the mode as it is, and is for both parts where there are two.
+function heat_line(stamp) {
+    put(octal(HEAT, 1) octal(SIZE[HEAT], 2) octal(stamp, 4) octal(number($3, 255, "MR4"), 1))
+    if (tolower($4) == "part")
+        bad("MR4 names no part")
+    else
+        no_more(3)
 }
 
 # A fall, a rise, an entry asleep and NOP stand where clock-enable makes them that, else they move nothing. A command asleep is the judge's to refuse.

@@ -1,8 +1,16 @@
 # Passes the judge's lines on, behind form.awk. Behind them comes a line "ended STATUS", with an empty line before it if the last line is whole. The exit status
 # is 0 for accepted, 3 for refused (some awks end with 1 when they fail), 2 where there is no verdict or the program failed; the verdict is passed on only if all
-# is well. Where TRACE names the file that was judged, the verdict is followed by words for it, from the table that WORDS names.
+# is well. Where TRACE names the file that was judged, the verdict is followed by words for it, from the table that WORDS names. With QUIET the lines of entries are
+# counted only.
 
-/^[0-9]/ { print; next }
+BEGIN { quiet = ENVIRON["QUIET"] != "" }
+
+/^[0-9]/ {
+    entries++
+    if (!quiet)
+        print
+    next
+}
 
 { tail[++count] = $0 }
 
@@ -50,35 +58,39 @@ function explain_refusal(number, rule, offset, cycle,    b, n, mode, due) {
     read_words()
     print "why    " number ": " says["number " number]
     read_card(offset)
-    mode = mode_before(offset)
+    heats = offset > size ? int((offset - size - (3 + SIZE[ENTRY]) * entries) / (3 + SIZE[HEAT])) : 0
+    mode = mode_before(number == 12 ? offset - 3 - SIZE[LAST] : offset)
     if (rule > 0)
-        explain_rule(rule)
+        explain_rule(rule, offset)
     explain_mode(number, mode)
     n = read_bytes(offset, 3 + SIZE[ENTRY], b)
     due = card_tag(offset, b[1])
-    print "where  " place(number, offset, due, b[1]) sprintf(", at byte %.0f: ", offset) standing(b, n, mode)
+    print "where  " place(number, due, b[1]) sprintf(", at byte %.0f: ", offset) standing(b, n, mode)
     if (due)
         print "field  " NAME[due] ": " says["field " due]
     else if (number != 12 && is_field(b, n) && b[1] == ENTRY)
         explain_entry(number, rule, offset, cycle, number_at(b, 8, 3), mode)
-    if (mode == "two" && number == 11)
-        explain_account(offset, cycle, b)
+    if (number == 11 && (mode == "two" || heats > 0))
+        explain_account(offset, rule, cycle, b)
     if (number == 4 || number == 9)
         print "range  " says["range " (number == 9 ? TAG["mr2"] : SIZE[due] == 5 ? 5 : due)]
     if (rule > 0)
         print "cycle  " cycle ": " says["cycle " number]
 }
 
-# Takes the card's fields before the offset: `size` bytes of them, the last one with tag `last`, their text in value.
+# Takes the card's fields before the offset: `size` bytes of them, the last one with tag `last`, their text in value, and how pins are read behind them. Behind the
+# card, and before the offset, stand as many entries as there are lines, and `heats` temperature fields.
 function read_card(offset,    b, field, k) {
     read_bytes(0, 8 * TOP, b)
     size = last = 0
+    card_mode = "one"
     while (size < offset && b[size + 1] in GROUP) {
         last = b[size + 1]
         for (k = 1; k <= 3 + SIZE[last]; k++)
             field[k] = b[size + k]
         value[NAME[last]] = field_text(field)
         size += 3 + SIZE[last]
+        card_mode = mode_behind(last, card_mode)
     }
 }
 
@@ -92,12 +104,48 @@ function card_tag(offset, first) {
 }
 
 # How the pins at the offset are read; clock-enable is as the entry before left it.
-function mode_before(offset,    b, mode) {
-    mode = mode_behind(last)
-    if (mode != "high" || offset < size + 3 + SIZE[ENTRY])
-        return mode
-    read_bytes(offset - 3 - SIZE[ENTRY], 3 + SIZE[ENTRY], b)
-    return mode_after(number_at(b, 8, 3), mode)
+function mode_before(offset,    b) {
+    if (card_mode != "high" || entries == 0)
+        return card_mode
+    read_bytes(latest(ENTRY, offset), 3 + SIZE[ENTRY], b)
+    return mode_after(number_at(b, 8, 3), card_mode)
+}
+
+# The tag of the field behind the card that ends with byte n of b. Where the tag of a temperature field would stand an entry has the length of its value.
+function tag_ending(b, n) {
+    return b[n - 2 - SIZE[HEAT]] == HEAT ? HEAT : ENTRY
+}
+
+# The offset of the latest field with this tag, of an entry or a temperature field, before another field's; there is one.
+function latest(tag, offset,    b, n, from, found) {
+    while (offset > size) {
+        from = offset - 20000 < size ? size : offset - 20000
+        n = read_bytes(from, offset - from, b)
+        while (n > 2 + SIZE[ENTRY] || n > 0 && from == size) {
+            found = tag_ending(b, n)
+            n -= 3 + SIZE[found]
+            if (found == tag)
+                return from + n
+        }
+        offset = from + n
+    }
+    return size
+}
+
+# The code of the latest temperature field.
+function code_before(offset,    b) {
+    read_bytes(latest(HEAT, offset), 3 + SIZE[HEAT], b)
+    note_heat(number_at(b, 4, 4), b[8])
+    return b[8] % 8
+}
+
+function note_heat(stamp, op) {
+    heat_stamp = stamp
+    heat_op = op
+}
+
+function heat_text() {
+    return sprintf("%.0f MR4 0x%02x", heat_stamp, heat_op)
 }
 
 # What a verdict means besides where a part may sleep, or where there are two.
@@ -116,31 +164,36 @@ function explain_entry(number, rule, offset, cycle, p, mode,    name) {
     if (mode == "two" && number != 6 && number != 11 && part_on(p) != "")
         print "part   " part_on(p) ": " says["part entry"]
     if (number == 10 && rule >= 25)
-        explain_wait(source_of(rule, offset, p), cycle)
+        explain_wait(rule, offset, cycle, p)
 }
 
 # What begins at the offset: a card field with tag `due`, or what comes behind the card.
-function place(number, offset, due, first) {
+function place(number, due, first) {
     if (due)
         return (first == due ? "" : "in the place of ") "tag " due " of the card"
     if (number == 12)
         return "behind the end field"
     if (first == LAST)
         return "the end field"
-    return (first == ENTRY ? "" : "in the place of ") entry_number(offset) ", counted from 1"
+    if (first == HEAT)
+        return sprintf("MR4 %.0f of the trace, counted from 1", heats + 1)
+    return (first == ENTRY ? "" : "in the place of ") entry_number(entries + 1) ", counted from 1"
 }
 
-function entry_number(offset) {
-    return sprintf("entry %.0f of the trace", (offset - size) / (3 + SIZE[ENTRY]) + 1)
+function entry_number(k) {
+    return sprintf("entry %.0f of the trace", k)
 }
 
 function standing(b, n, mode) {
     return n == 0 ? "the file ends" : is_field(b, n) ? field_text(b, mode) : raw_text(b, n)
 }
 
-# The rule, and what the terms n(..) and i(..) in it come to on this card, and the gap.
-function explain_rule(number,    rest, text) {
+# The rule, and what the terms n(..) and i(..) in it come to on this card, and the gap. Where code 110 is in force, timings are raised.
+function explain_rule(number, offset,    rest, text, hot) {
     rest = says["rule " number]
+    hot = heats > 0 && in_ps("raise") > 0 && raised(rest) != rest && code_before(offset) == HOT
+    if (hot)
+        rest = raised(rest)
     print "rule   " number ": " rest
     while (match(rest, /[ni]\([a-z +]*\)/)) {
         text = text "; " in_clocks(substr(rest, RSTART, RLENGTH))
@@ -152,6 +205,21 @@ function explain_rule(number,    rest, text) {
         text = text (text == "" ? "" : "; ") value["gap"]
     if (text != "")
         print "card   " text
+    if (hot)
+        print "heat   " heat_text() ": " says["heat raised"]
+}
+
+# A rule with raise added to the timings that code 110 raises.
+function raised(rule,    name, n, i) {
+    n = split(RAISED, name, " ")
+    for (i = 1; i <= n; i++)
+        gsub(name[i], name[i] " + raise", rule)
+    return rule
+}
+
+function in_ps(name,    word) {
+    split(value[name], word, " ")
+    return word[2] + 0
 }
 
 # A term with the card's values that enter it; of a sum, durations and floors are added.

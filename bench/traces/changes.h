@@ -6,7 +6,7 @@
 
 static uint32_t near(uint32_t v)
 {
-    uint64_t by = one_in(2) ? 1 : one_in(2) ? between(1, 4) : below(200);
+    int64_t by = one_in(2) ? 1 : one_in(2) ? between(1, 4) : below(200);
     return one_in(2) ? (v >= by ? v - (uint32_t)by : 0) : v + (uint32_t)by;
 }
 
@@ -18,14 +18,28 @@ static void perturb_tag_25(struct card *c)
         c->gap = one_in(2) ? (uint8_t)draw() : (uint8_t)near(c->gap);
 }
 
+static const uint32_t edges[] = {0, 1, 999999, 1000000, 1000001, UINT32_MAX};
+
+static uint32_t beside(uint32_t ps, uint32_t period)
+{
+    return one_in(2) ? near(ps) : ps + (one_in(2) ? period : 0u - period);
+}
+
+static void perturb_tag_26(struct card *c)
+{
+    if (one_in(4))
+        c->heats = !c->heats;
+    else
+        c->heat = one_in(2) ? PICK(edges) : beside(c->heat, c->period);
+}
+
 static void perturb_card(struct card *c)
 {
     static const uint32_t periods[] = {0, 937, 938, 100000, 100001, UINT32_MAX};
     static const uint32_t rs[] = {0, 1, 16384, 16385, 65535};
-    static const uint32_t edges[] = {0, 1, 999999, 1000000, 1000001, UINT32_MAX};
     static const uint8_t floors[] = {0, 1, 254, 255};
     unsigned i = (unsigned)below(timings(c));
-    switch (below(9)) {
+    switch (below(10)) {
     case 0:
         c->period = one_in(2) ? PICK(periods) : near(c->period);
         break;
@@ -50,8 +64,11 @@ static void perturb_card(struct card *c)
     case 6:
         perturb_tag_25(c);
         break;
+    case 7:
+        perturb_tag_26(c);
+        break;
     default:
-        c->ps[i] = one_in(2) ? near(c->ps[i]) : c->ps[i] + (one_in(2) ? c->period : 0u - c->period);
+        c->ps[i] = beside(c->ps[i], c->period);
     }
 }
 
@@ -61,17 +78,19 @@ static void shift_from(size_t i, uint32_t by)
         trace.e[i].stamp += by;
 }
 
-static void add(uint64_t t, uint32_t pins)
+static void add(int64_t t, uint32_t pins)
 {
     insert(trace.n, (struct entry){(uint32_t)t, pins});
     trace.last = (uint32_t)(t + below(2));
 }
 
-/* What an entry is to the part it is for. */
+static bool is_field(size_t i) { return trace.e[i].pins & FIELD; }
+
+/* What an entry is to the part it is for; a field counts as NOP. */
 static enum kind kind_of(size_t i)
 {
     uint32_t pins = trace.e[i].pins;
-    return decode(trace.card.two ? seen(pins) : pins);
+    return is_field(i) ? NOP : decode(trace.card.two ? seen(pins) : pins);
 }
 
 /* The first entry of either kind from this place on, round about; the number of entries where there is none. */

@@ -44,7 +44,7 @@ static void starve(size_t from, unsigned p)
 /* At the end, one entry or two about where an account fails; a refresh saves the part it is for. */
 static void refresh_in_failing(void)
 {
-    uint64_t t = one_in(2) ? trace.fail : trace.fail + below(4) - 2;
+    int64_t t = one_in(2) ? trace.fail : trace.fail + below(4) - 2;
     uint32_t refab = encode(REFAB, 0, 0, 0), pins = refab;
     unsigned p = (unsigned)below(2), q = (unsigned)below(2);
     if (one_in(2))

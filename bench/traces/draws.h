@@ -15,8 +15,8 @@ static uint64_t draw(void)
 }
 
 /* No two draws stand where C leaves open which comes first: a seed means the same by every compiler. */
-static uint64_t below(uint64_t n) { return draw() % n; }
-static uint64_t between(uint64_t low, uint64_t high) { return low + below(high - low + 1); }
+static int64_t below(int64_t n) { return (int64_t)(draw() % (uint64_t)n); }
+static int64_t between(int64_t low, int64_t high) { return low + below(high - low + 1); }
 static bool one_in(unsigned n) { return below(n) == 0; }
 #define PICK(list) (list)[below(sizeof(list) / sizeof *(list))]
 
@@ -33,14 +33,18 @@ static const struct card bench_card = {
 static const uint32_t sleep_ps[] = {7500, 10000, 15000, 140000};
 static const uint8_t sleep_floors[] = {3, 3, 3, 2};
 
-/* What a card has beyond tags 1 to 18. */
-enum form { PLAIN, SLEEPING, PAIRED };
+/* What a trace has beyond document 01: tags 19 to 22, tag 25, fields of tag 34, tag 26. */
+struct form {
+    bool sleeps, two, warms, heats;
+};
 
-static void add_form(struct card *c, enum form form)
+static void add_form(struct card *c, struct form form)
 {
-    c->sleeps = form == SLEEPING;
-    c->two = form == PAIRED;
+    c->sleeps = form.sleeps;
+    c->two = form.two;
     c->gap = c->two ? 2 : 0;
+    c->heats = form.heats;
+    c->heat = c->heats ? 1875 : 0;
     if (c->sleeps) {
         memcpy(c->ps + tCKE, sleep_ps, sizeof sleep_ps);
         memcpy(c->floor + tCKE, sleep_floors, sizeof sleep_floors);
@@ -75,7 +79,28 @@ static void random_timing(struct card *c, unsigned i, unsigned style)
         c->ps[i] = 1000000;
 }
 
-static void random_card(struct card *c, enum form form)
+static uint32_t random_heat(uint32_t period)
+{
+    int64_t heat = period * between(1, 8);
+    heat = one_in(2) ? below(30000) : heat + below(3) - 1;
+    if (one_in(8))
+        heat = 1000000 * below(2);
+    return heat > 1000000 ? 1000000 : (uint32_t)heat;
+}
+
+/* tREFI of a few periods, and delays so short that refreshes keep up. */
+static void hurry(struct card *c)
+{
+    c->refi = (uint32_t)(c->period * between(1, 9));
+    c->refi += (uint32_t)below(c->period);
+    for (unsigned i = 0; i < timings(c); i++) {
+        c->ps[i] = one_in(2) ? 0 : (uint32_t)below(c->period);
+        c->floor[i] = (uint8_t)below(2);
+    }
+    c->heat = c->heats ? (uint32_t)below(c->period) : 0;
+}
+
+static void random_card(struct card *c, struct form form)
 {
     static const uint32_t periods[] = {938,  939,  1070, 1071, 1072, 1249, 1250,  1251,  1360,  1500,
                                        1670, 1875, 2500, 5999, 6000, 6001, 33333, 99999, 100000};
@@ -83,18 +108,23 @@ static void random_card(struct card *c, enum form form)
     add_form(c, form);
     if (c->two)
         c->gap = (uint8_t)(one_in(4) ? below(256) : below(6));
+    bool heat = c->heats && !one_in(3);
     c->period = one_in(3) ? (uint32_t)between(938, 100000) : one_in(3) ? 1250 : PICK(periods);
     c->mr2 = random_mr2(c->period);
     c->r = (uint16_t)between(1, 16384);
-    uint64_t interval = one_in(8) ? between(1, 20) : one_in(2) ? between(20, 600) : between(600, 22000);
-    uint64_t refi = interval * c->period + below(c->period);
+    int64_t interval = one_in(8) ? between(1, 20) : one_in(2) ? between(20, 600) : between(600, 22000);
+    int64_t refi = interval * c->period + below(c->period);
     c->refi = refi > 20000000 ? 20000000 : (uint32_t)refi;
     unsigned style = (unsigned)below(4);
     for (unsigned i = 0; i < timings(c); i++)
         random_timing(c, i, style);
-    uint64_t four = c->ps[tRRD] * between(3, 6);
+    int64_t four = c->ps[tRRD] * between(3, 6);
     if (one_in(2))
         c->ps[tFAW] = four > 1000000 ? 1000000 : (uint32_t)four;
+    if (heat)
+        c->heat = random_heat(c->period);
+    if (form.warms && one_in(6))
+        hurry(c);
 }
 
 static bool tidy; /* ignored bits zero */
@@ -144,6 +174,15 @@ static uint32_t to_part(uint32_t pins, unsigned p)
     if (!trace.card.two)
         return pins;
     return pins | (pins >> 20 & 1 ? CS_NS : CS_NS & ~(1u << (20 + 2 * p)));
+}
+
+static unsigned with_code(int64_t code) { return (tidy ? 0 : (unsigned)below(32) << 3) | (unsigned)code; }
+
+/* An MR4 value that is permitted. */
+static unsigned some_mr4(void)
+{
+    int64_t code = trace.card.heat && one_in(2) ? between(5, 6) : between(1, 6);
+    return with_code(code);
 }
 
 static uint32_t stray_pins(uint32_t period)

@@ -6,23 +6,23 @@
 #include "draws.h"
 
 /* By the rules of its own part. */
-static uint64_t first_own(const struct record *r, enum kind k, unsigned bank)
+static int64_t first_own(const struct record *r, enum kind k, unsigned bank)
 {
-    uint64_t t = r->next, c;
+    int64_t t = r->next, c;
     while (ask(r, k, bank, t, &c))
         t = c;
     return t;
 }
 
-static uint64_t first_permitted(const struct record *part, unsigned p, enum kind k, unsigned bank)
+static int64_t first_permitted(const struct record *part, unsigned p, enum kind k, unsigned bank)
 {
-    uint64_t t = first_own(part + p, k, bank), c;
+    int64_t t = first_own(part + p, k, bank), c;
     while (part->card.two && ask_bus(part + !p, k, t, &c))
         t = c;
     return t;
 }
 
-static bool lay_pins(struct record *part, unsigned p, enum kind k, unsigned bank, uint64_t t, uint32_t pins)
+static bool lay_pins(struct record *part, unsigned p, enum kind k, unsigned bank, int64_t t, uint32_t pins)
 {
     struct refusal no;
     if (t > UINT32_MAX || !step(part, part->card.two, p, k, bank, t, pins, &no))
@@ -31,9 +31,18 @@ static bool lay_pins(struct record *part, unsigned p, enum kind k, unsigned bank
     return true;
 }
 
-static bool lay(struct record *part, unsigned p, enum kind k, unsigned bank, uint64_t t)
+static bool lay(struct record *part, unsigned p, enum kind k, unsigned bank, int64_t t)
 {
     return lay_pins(part, p, k, bank, t, random_pins(k, bank, part->card.period));
+}
+
+static bool lay_field(struct record *part, int64_t t, unsigned mr4)
+{
+    struct refusal no;
+    if (t > UINT32_MAX || !step_field(part, t, mr4, &no))
+        return false;
+    insert(trace.n, (struct entry){(uint32_t)t, FIELD | mr4});
+    return true;
 }
 
 static bool lay_first(struct record *part, unsigned p, enum kind k)
@@ -42,7 +51,7 @@ static bool lay_first(struct record *part, unsigned p, enum kind k)
 }
 
 /* The first cycle from this one on that a REFab could stand at, with a PRE-all before it where a bank is open. */
-static uint64_t reach(const struct record *r, uint64_t from)
+static int64_t reach(const struct record *r, int64_t from)
 {
     struct record copy = *r;
     raise_to(&copy.next, from);
@@ -55,7 +64,7 @@ static uint64_t reach(const struct record *r, uint64_t from)
 static bool in_time(const struct record *part)
 {
     const struct record *a = first_failing(part, part->card.two), *b = part + (a == part);
-    uint64_t t = reach(a, 0);
+    int64_t t = reach(a, 0);
     return t <= a->fail && (!part->card.two || reach(b, t + 1) <= b->fail);
 }
 
@@ -63,10 +72,10 @@ static bool in_time(const struct record *part)
 #define LONG_WAY 5000
 
 /* Likewise, behind this entry. */
-static bool leaves_time(const struct record *part, unsigned p, enum kind k, unsigned bank, uint64_t t)
+static bool leaves_time(const struct record *part, unsigned p, enum kind k, unsigned bank, int64_t t)
 {
     bool two = part->card.two;
-    uint64_t fail = first_failing(part, two)->fail;
+    int64_t fail = first_failing(part, two)->fail;
     if (t > fail || t + (1 + two) * LONG_WAY <= fail)
         return t <= fail;
     struct record copy[2] = {part[0], part[1]};
@@ -81,7 +90,7 @@ static bool lay_refresh(struct record *part, unsigned p, bool spare)
 {
     const struct record *r = part + p;
     enum kind k = r->counter == 7 && first_own(r, REFPB, 7) <= r->fail ? REFPB : REFAB;
-    uint64_t t = first_own(r, k, 7), late = t;
+    int64_t t = first_own(r, k, 7), late = t;
     if (t < r->fail && one_in(4))
         late = one_in(2) ? r->fail : between(t, r->fail);
     if (!part->card.two || leaves_time(part, p, k, 7, late))
@@ -98,7 +107,7 @@ static bool refresh(struct record *part)
     if (part[p].open && !lay_first(part, p, PREA))
         return false;
     bool good = lay_refresh(part, p, false);
-    for (uint64_t more = one_in(3) ? below(12) : 0; good && more; more--)
+    for (int64_t more = one_in(3) ? below(12) : 0; good && more; more--)
         good = lay_refresh(part, p, true);
     return good;
 }

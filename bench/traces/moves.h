@@ -4,7 +4,13 @@
 
 #include "changes.h"
 
-static bool is_low(size_t i) { return !(trace.e[i].pins >> 21 & 1); }
+/* Clock-enable is low at this entry, or at the one before this field. */
+static bool is_low(size_t i)
+{
+    while (i && is_field(i))
+        i--;
+    return !is_field(i) && !(trace.e[i].pins >> 21 & 1);
+}
 
 static bool is_moved(size_t i) { return is_low(i) != (i && is_low(i - 1)); }
 
@@ -25,7 +31,7 @@ static const enum level levels[] = {POWER_DOWN, SELF_REFRESH, DEEP};
 /* At the end, about where the account fails. */
 static void end_in_failing(void)
 {
-    uint64_t before = trace.fail - between(1, 4), t = trace.fail + below(4) - 2;
+    int64_t before = trace.fail - between(1, 4), t = trace.fail + below(4) - 2;
     if (one_in(2))
         add(before, fall_pins(PICK(levels)));
     add(t, one_in(3) ? fall_pins(PICK(levels)) : one_in(2) ? rise_pins() : (uint32_t)below(1 << 22));
@@ -34,8 +40,8 @@ static void end_in_failing(void)
 /* An entry close behind this one, most often a fall or one that is not permitted. */
 static void crowd(size_t i)
 {
-    uint64_t most = part->cke > part->xp ? part->cke : part->xp;
-    uint64_t by = one_in(3) ? 1 : one_in(2) ? most - 1 + below(3) : between(1, most + 1);
+    int64_t most = part->cke > part->xp ? part->cke : part->xp;
+    int64_t by = one_in(3) ? 1 : one_in(2) ? most - 1 + below(3) : between(1, most + 1);
     struct entry e = {trace.e[i].stamp + (uint32_t)by, fall_pins(PICK(levels))};
     if (one_in(3))
         e.pins = (uint32_t)below(1 << 22);

@@ -3,6 +3,7 @@
 #define PERTURBS_H
 
 #include "crossings.h"
+#include "fields.h"
 #include "moves.h"
 
 static void perturb_stamp(size_t i)
@@ -20,6 +21,10 @@ static void perturb_stamp(size_t i)
 static void perturb_pins(size_t i)
 {
     struct entry *e = trace.e + i;
+    if (is_field(i)) {
+        perturb_value(e);
+        return;
+    }
     switch (below(5)) {
     case 0:
         e->pins ^= (uint32_t)between(1, 7) << 7;
@@ -94,7 +99,9 @@ static void perturb_any(void)
 
 static void perturb(void)
 {
-    if (trace.card.sleeps && one_in(2))
+    if (trace.warms && one_in(2))
+        perturb_fields();
+    else if (trace.card.sleeps && one_in(2))
         perturb_move();
     else if (trace.card.two && one_in(2))
         perturb_parts();

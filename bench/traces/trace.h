@@ -17,17 +17,21 @@ static void *grown(void *p, size_t size)
     return p;
 }
 
-/* One trace, before it becomes bytes. */
+/* One trace, before it becomes bytes. Among its entries are the fields of tag 34, with FIELD and the MR4 value for
+   pins. */
+#define FIELD 0x1000000u
+
 struct entry {
     uint32_t stamp, pins;
 };
 
 static struct {
     struct card card;
+    bool warms; /* fields of tag 34 come */
     struct entry *e;
     size_t n, room;
     uint32_t last;
-    uint64_t fail;
+    int64_t fail;
 } trace;
 
 static void insert(size_t at, struct entry e)
@@ -85,6 +89,14 @@ static void put_field(unsigned tag, unsigned length, uint64_t value)
     put(value, length);
 }
 
+static void put_entry(struct entry e)
+{
+    if (e.pins & FIELD)
+        put_field(34, 5, (uint64_t)e.stamp << 8 | (e.pins & 255));
+    else
+        put_field(32, 7, (uint64_t)e.stamp << 24 | e.pins);
+}
+
 static unsigned timings(const struct card *c) { return c->sleeps ? TIMINGS : tCKE; }
 
 static void serialize(void)
@@ -99,8 +111,10 @@ static void serialize(void)
         put_field(5 + i, 5, (uint64_t)c->ps[i] << 8 | c->floor[i]);
     if (c->two)
         put_field(25, 1, c->gap);
+    if (c->heats)
+        put_field(26, 4, c->heat);
     for (size_t i = 0; i < trace.n; i++)
-        put_field(32, 7, (uint64_t)trace.e[i].stamp << 24 | trace.e[i].pins);
+        put_entry(trace.e[i]);
     put_field(33, 4, trace.last);
 }
 

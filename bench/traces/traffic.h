@@ -70,7 +70,7 @@ struct command {
     unsigned p;
     enum kind k;
     unsigned bank;
-    uint64_t t;
+    int64_t t;
 };
 
 static unsigned some_part(const struct record *part) { return part->card.two ? (unsigned)below(2) : 0; }
@@ -121,7 +121,7 @@ static bool some_sleeps(struct record *r, bool stays)
 }
 
 /* One more entry, or a few. False: nothing can follow. */
-static bool lay_more(struct record *part, enum style style, uint64_t jump, enum kind *wanted)
+static bool lay_more(struct record *part, enum style style, int64_t jump, enum kind *wanted)
 {
     const struct deck *d = decks + (style == FULL && one_in(200) ? ALL : style);
     struct command c = next_command(part, d, wanted);
@@ -139,9 +139,13 @@ static void lay_legal(struct record *part, size_t count)
 {
     bool goes_on = true, large = count > 1000;
     enum style style = large ? FULL : (enum style)below(part->card.two ? STYLES : BUS);
-    uint64_t jump = one_in(3) ? 2 * part->interval : 0;
+    int64_t jump = one_in(3) ? 2 * part->interval : 0;
     enum kind wanted[2] = {NOP, NOP};
+    if (trace.warms && one_in(2))
+        lay_fields(part);
     while (goes_on && trace.n < count) {
+        if (trace.warms && one_in(large ? 300 : 6))
+            lay_fields(part);
         if (part->card.sleeps && one_in(large ? 100 : 6)) {
             wanted[0] = NOP;
             goes_on = some_sleeps(part, !large);
@@ -152,19 +156,20 @@ static void lay_legal(struct record *part, size_t count)
 
 static void choose_end(const struct record *part)
 {
-    uint64_t low = part->next ? part->next - 1 : 0;
-    uint64_t fail = first_failing(part, part->card.two)->fail;
-    uint64_t high = uncounted(part->level) ? low + 30 * part->interval : fail - 1;
-    uint64_t e = one_in(3) ? low : one_in(3) ? high : between(low, high);
+    int64_t low = part->next ? part->next - 1 : 0;
+    int64_t fail = first_failing(part, part->card.two)->fail;
+    int64_t high = uncounted(part->level) ? low + 30 * part->interval : fail - 1;
+    int64_t e = one_in(3) ? low : one_in(3) ? high : between(low, high);
     trace.last = e > UINT32_MAX ? UINT32_MAX : (uint32_t)e;
     trace.fail = high + 1;
 }
 
 static struct record part[2];
 
-static void begin_all(void)
+static void begin_all(struct form form)
 {
     trace.n = 0;
+    trace.warms = form.warms;
     begin(&part[0], &trace.card);
     begin(&part[1], &trace.card);
 }
@@ -178,9 +183,9 @@ static void part_modes(void)
 }
 
 /* Refreshes of this part, so many, the last at t. */
-static void lay_refreshes(unsigned p, uint64_t n, uint64_t t)
+static void lay_refreshes(unsigned p, int64_t n, int64_t t)
 {
-    for (uint64_t gap = part->rfcab + below(2); n--;)
+    for (int64_t gap = part->rfcab + below(2); n--;)
         lay(part, p, REFAB, 0, t - n * gap);
 }
 
@@ -188,7 +193,7 @@ static void lay_refreshes(unsigned p, uint64_t n, uint64_t t)
 static void lay_some_refreshes(void)
 {
     unsigned p = (unsigned)below(2);
-    uint64_t n = between(1, 9), t = below(8 * part->interval);
+    int64_t n = between(1, 9), t = below(8 * part->interval);
     lay_refreshes(p, n, t);
 }
 
@@ -196,13 +201,13 @@ static void lay_some_refreshes(void)
    last just before m intervals; the other by rule 19, with m refreshes, the last of them later. */
 static void lay_tie(void)
 {
-    uint64_t m = between(1, 5);
+    int64_t m = between(1, 5);
     unsigned p = (unsigned)below(2);
     lay_refreshes(p, m + between(1, 3), m * part->interval - 1);
     lay_refreshes(!p, m, part->next + m * (part->rfcab + 1) + below(part->interval));
 }
 
-static void legal(bool bench, enum form form, size_t count)
+static void legal(bool bench, struct form form, size_t count)
 {
     tidy = one_in(2);
     trace.card = bench_card;
@@ -210,12 +215,12 @@ static void legal(bool bench, enum form form, size_t count)
         add_form(&trace.card, form);
     else
         random_card(&trace.card, form);
-    begin_all();
-    if (form == PAIRED && one_in(2))
+    begin_all(form);
+    if (form.two && one_in(2))
         part_modes();
-    if (form == PAIRED && one_in(6))
+    if (form.two && one_in(6))
         lay_some_refreshes();
-    if (form == PAIRED && count <= 1000 && one_in(8))
+    if (form.two && count <= 1000 && one_in(8))
         lay_tie();
     else
         lay_legal(part, count);
@@ -223,7 +228,7 @@ static void legal(bool bench, enum form form, size_t count)
 }
 
 /* Refreshes up to the last cycles of 32 bits; there often one entry too early. */
-static void far(enum form form)
+static void far(struct form form)
 {
     tidy = true;
     trace.card = bench_card;
@@ -231,11 +236,18 @@ static void far(enum form form)
     trace.card.period = 938;
     trace.card.mr2 = 0x1E;
     trace.card.refi = 20000000;
-    begin_all();
-    uint64_t stop = UINT32_MAX - between(30, 4000);
-    for (uint64_t t = 0; t < stop; t += part->interval) {
+    begin_all(form);
+    int64_t stop = UINT32_MAX - between(30, 4000);
+    for (int64_t t = 0; t < stop; t += part->interval) {
+        if (form.warms && one_in(1000)) {
+            /* one due more at most, and its refresh */
+            lay_field(part, part->next, some_mr4());
+            lay_refreshes(0, 1, part->next + part->rfcab);
+            lay_refreshes(1, form.two, part->next);
+            t = part->next + part->rfcab;
+        }
         lay(part, 0, REFAB, 0, t);
-        if (form == PAIRED && t + 1 < stop)
+        if (form.two && t + 1 < stop)
             lay(part, 1, REFAB, 0, t + 1);
     }
     stop += below(20);
@@ -248,14 +260,14 @@ static void far(enum form form)
 }
 
 /* Likewise by one long self-refresh. */
-static void far_asleep(bool bench, size_t count)
+static void far_asleep(bool bench, struct form form, size_t count)
 {
-    legal(bench, SLEEPING, count);
+    legal(bench, form, count);
     if (part->level == AWAKE && part->open)
         lay_first(part, 0, PREA);
     if (part->level == AWAKE)
         lay_pins(part, 0, NOP, 0, first_fall(part, SELF_REFRESH), fall_pins(SELF_REFRESH));
-    uint64_t rise = UINT32_MAX - (one_in(2) ? below(50) : below(20 * part->interval));
+    int64_t rise = UINT32_MAX - (one_in(2) ? below(50) : below(20 * part->interval));
     if (part->level == SELF_REFRESH && rise > part->next && lay_pins(part, 0, NOP, 0, rise, rise_pins()))
         lay_legal(part, trace.n + count);
     if (one_in(2) && part->next <= UINT32_MAX)

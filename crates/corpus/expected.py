@@ -1,6 +1,6 @@
 """Writes the files of data/, the arguments, and stdout: what the program must print of them. Run it in this folder.
 
-Each file stands for a point of document 01, or of requests One and Nine of document 02. Where a refusal is expected it is written here by hand, from the document; paper.py works out the rest, and must
+Each file stands for a point of document 01, or of requests One, Nine and Eleven of document 02. Where a refusal is expected it is written here by hand, from the document; paper.py works out the rest, and must
 come to the same refusal. The last files are those of examples/, whose README has their verdicts."""
 import os
 import re
@@ -31,7 +31,8 @@ def card_fields(**changed):
     c = {**BENCH, **changed}
     out = [field(1, num(c["period"], 4)), field(2, num(c["mr2"], 1)), field(3, num(c["R"], 2)), field(4, num(c["tREFI"], 4))]
     out += [field(5 + k, num(c[name][0], 4) + num(c[name][1], 1)) for k, name in enumerate(paper.TIMINGS + paper.SLEEPS) if name in c]
-    return out + ([field(25, num(c["gap"], 1))] if "gap" in c else [])
+    out += [field(25, num(c["gap"], 1))] if "gap" in c else []
+    return out + ([field(26, num(c["hot"], 4))] if "hot" in c else [])
 
 
 def card(**changed):
@@ -79,8 +80,16 @@ def pre(b):
     return CKE | 11 | b << 7
 
 
+# above the 24 pins: a temperature field in the place of an entry
+MR4 = 1 << 24
+
+
+def mr4(value):
+    return MR4 | value
+
+
 def entry(t, pins):
-    return field(32, num(t, 4) + num(pins, 3))
+    return field(34, num(t, 4) + num(pins - MR4, 1)) if pins >= MR4 else field(32, num(t, 4) + num(pins, 3))
 
 
 def end(e):
@@ -105,7 +114,8 @@ def good(name, entries, e, verdict=None, **changed):
 
 def bad(name, entries, e, number, rule=0, cycle=0, place=None, **changed):
     place, head = len(entries) - 1 if place is None else place, card(**changed)
-    case(name, trace(entries, e, head), "refused %d %d %d %d" % (number, rule, len(head) + 10 * place, cycle))
+    before = head + b"".join(entry(t, p) for t, p in entries[:place])
+    case(name, trace(entries, e, head), "refused %d %d %d %d" % (number, rule, len(before), cycle))
 
 
 def bound(name, entries, t, pins, rule, cycle, **changed):
@@ -212,7 +222,7 @@ def refusal_cases():
     case("1-one-length-byte", card() + bytes([32, 9]), "refused 1 0 135 0")
     case("1-cut-first", field(1, num(1250, 4))[:5], "refused 1 0 0 0")
     case("2-first", bytes([2, 0, 1, 26]), "refused 2 0 0 0")
-    case("2-last-byte", card() + bytes([34]), "refused 2 0 135 0")
+    case("2-last-byte", card() + bytes([35]), "refused 2 0 135 0")
     case("2-entry-in-card", b"".join(fields[:4]) + entry(0, NOP), "refused 2 0 23 0")
     case("2-card-tag-behind", card() + field(1, num(1250, 4)), "refused 2 0 135 0")
     case("2-doubled", fields[0] + fields[0], "refused 2 0 7 0")
@@ -613,10 +623,282 @@ def parts_tag_cases():
     for k in (1, 2, 3):
         case("2-25-behind-%d" % (18 + k), bench + b"".join(sleeps[:k]) + gap + b"".join(sleeps[k:]) + more, "refused 2 0 %d 0" % (135 + 8 * k))
     case("2-19-behind-25", bench + gap + b"".join(sleeps) + more, "refused 2 0 139 0")
-    for tag in (23, 24, 26, 31):
+    for tag in (23, 24, 27, 31):
         case("2-%d-behind-25" % tag, bench + gap + bytes([tag]), "refused 2 0 139 0")
         case("2-%d-behind-18" % tag, bench + bytes([tag]), "refused 2 0 135 0")
     case("12-25-behind-the-end", bench + gap + end(5) + gap, "refused 12 0 146 0")
+
+
+def heat_interval_cases():
+    """Each code's interval, from the last cycle that is good to the first that is not. The first due stays where it was if the interval grows."""
+    for name, code, first, i in (("4", 1, 3120, 12480), ("2", 2, 3120, 6240), ("1", 3, 3120, 3120), ("half", 4, 1560, 1560), ("quarter", 5, 780, 780), ("hot", 6, 780, 780)):
+        ninth = first + 8 * i
+        good("heat-" + name, [(0, mr4(code))], ninth - 1, "accepted 0 0 8")
+        bad("heat-%s-late" % name, [(0, mr4(code))], ninth, 11, 19, ninth, place=1)
+    # the factor before the rounding: 3,901,249 ps are 3120.9 periods, four times that 12483.9
+    ninth = 3120 + 8 * 12483
+    good("heat-rounds-once", [(0, mr4(1))], ninth - 1, "accepted 0 0 8", tREFI=3901249)
+    bad("heat-rounds-once-late", [(0, mr4(1))], ninth, 11, 19, ninth, place=1, tREFI=3901249)
+    # never below one cycle
+    for name, code in (("half", 4), ("quarter", 5)):
+        good("heat-least-" + name, [(0, mr4(code))], 8, "accepted 0 0 8", tREFI=1250)
+        bad("heat-least-%s-late" % name, [(0, mr4(code))], 9, 11, 19, 9, place=1, tREFI=1250)
+    good("heat-least-from-3", [(10, mr4(5))], 15, "accepted 0 0 8", tREFI=4999)
+    bad("heat-least-from-3-late", [(10, mr4(5))], 16, 11, 19, 16, place=1, tREFI=4999)
+    good("heat-least-refreshed", [(7, mr4(4))] + [(8 + k, REFAB) for k in range(20)], 28, "accepted 20 20 8", tREFI=1250, tRFCab=(0, 0))
+    bad("heat-least-grows", [(5, mr4(1))], 20, 11, 19, 18, place=1, tREFI=1250)
+    most, ninth = dict(period=938, mr2=0x1E, tREFI=20000000), 21321 + 8 * 85287
+    good("heat-most", [(0, mr4(1))], ninth - 1, "accepted 0 0 8", **most)
+    bad("heat-most-late", [(0, mr4(1))], ninth, 11, 19, ninth, place=1, **most)
+
+
+def heat_due_cases():
+    """What falls due at the field's own cycle and behind it. Half the interval is 1560 cycles, a quarter 780."""
+    good("heat-own-cycle", [(3120, mr4(4))], 3120, "accepted 0 0 1")
+    good("heat-own-cycle-next", [(3120, mr4(4))], 4680, "accepted 0 0 2")
+    # the earlier of the old next due and one new interval, on both sides of where they meet
+    good("heat-old-due-first", [(1561, mr4(4))], 3120, "accepted 0 0 1")
+    good("heat-old-due-first-next", [(1561, mr4(4))], 4680, "accepted 0 0 2")
+    good("heat-both-dues", [(1560, mr4(4))], 4680, "accepted 0 0 2")
+    good("heat-new-due-first", [(1559, mr4(4))], 3119, "accepted 0 0 1")
+    bad("heat-new-due-first-late", [(1559, mr4(4))], 15599, 11, 19, 15599, place=1)
+    good("heat-before-due", [(3119, mr4(5))], 3120, "accepted 0 0 1")
+    good("heat-behind-due", [(3121, mr4(5))], 3900, "accepted 0 0 1")
+    # several: a later one may bring the next due forward, and never puts it off
+    good("heat-every-cycle", [(0, mr4(5))] + [(k, mr4(5)) for k in range(770, 790)], 789, "accepted 0 0 1")
+    good("heat-not-put-off", [(500 * k, mr4(1 + k % 3)) for k in range(7)], 3120, "accepted 0 0 1")
+    bad("heat-not-put-off-late", [(1000 * k, mr4(3)) for k in range(28)], 28080, 11, 19, 28080, place=28)
+    good("heat-shorter-twice", [(1000, mr4(4)), (1500, mr4(5))], 2280, "accepted 0 0 1")
+    good("heat-shorter-then-longer", [(1000, mr4(5)), (1001, mr4(1))], 1780 + 12479, "accepted 0 0 1")
+    good("heat-shorter-then-longer-next", [(1000, mr4(5)), (1001, mr4(1))], 1780 + 12480, "accepted 0 0 2")
+    good("heat-longer-then-shorter", [(4000, mr4(1)), (7000, mr4(4))], 8560, "accepted 0 0 3")
+    # due at 780, 1560, 2340, 8580, and from 14820 on every 3120
+    cooled = [(0, mr4(5)), (2000, mr4(2)), (12000, mr4(3))]
+    good("heat-and-cooled", cooled, 14820 + 4 * 3120 - 1, "accepted 0 0 8")
+    bad("heat-and-cooled-late", cooled, 14820 + 4 * 3120, 11, 19, 14820 + 4 * 3120, place=3)
+    good("heat-followed", [(0, mr4(5))] + [(780 * k + 10, REFAB) for k in range(1, 16)], 780 * 16 - 1, "accepted 15 15 0")
+    good("heat-credit", [(0, mr4(4))] + [(104 * k, REFAB) for k in range(1, 17)], 3120, "accepted 16 16 -7")
+    good("heat-refresh-at-the-due", [(10, mr4(5)), (790, REFAB)], 790, "accepted 1 1 0")
+    good("heat-round", [(0, mr4(4))] + [(48 * k + 1, REFPB) for k in range(4)] + [(200, mr4(5))] + [(48 * k + 201, REFPB) for k in range(4)], 500, "accepted 8 1 -1")
+
+
+def heat_gap_cases():
+    """Rule 20 counts from the later of the last counted refresh and the field. Eight refreshes leave -8, so that 19 stays away."""
+    eight = [(104 * k, REFAB) for k in range(8)]
+    for name, code, i in (("4", 1, 12480), ("1", 3, 3120), ("half", 4, 1560), ("hot", 6, 780)):
+        good("heat-gap-" + name, eight + [(1000, mr4(code))], 1000 + 9 * i)
+        bad("heat-gap-%s-late" % name, eight + [(1000, mr4(code))], 1000 + 9 * i + 1, 11, 20, 1000 + 9 * i + 1, place=9)
+    shrinks = eight + [(20000, mr4(5))]
+    good("heat-gap-shrinks", shrinks, 27020)
+    bad("heat-gap-shrinks-late", shrinks, 27021, 11, 20, 27021, place=9)
+    two = eight + [(1000, mr4(5)), (5000, mr4(4))]
+    good("heat-gap-two", two, 5000 + 9 * 1560)
+    bad("heat-gap-two-late", two, 5000 + 9 * 1560 + 1, 11, 20, 5000 + 9 * 1560 + 1, place=10)
+    # a refresh behind the field: 728 and nine times 780 are 7748
+    fed = eight[:7] + [(700, mr4(5)), (728, REFAB)]
+    good("heat-gap-from-a-refresh", fed, 7748)
+    bad("heat-gap-from-a-refresh-late", fed, 7749, 11, 20, 7749, place=9)
+    bad("heat-gap-entry-behind", fed + [(8000, NOP)], 8001, 11, 20, 7749)
+    bad("heat-gap-heat-behind", fed + [(7750, mr4(3))], 8001, 11, 20, 7749)
+    # a field at the very cycle that fails saves it from 20 and not from 19
+    good("heat-saves-20", fed + [(7749, mr4(5))], 7749, "accepted 8 8 1")
+    good("heat-saves-20-longest", fed + [(7749, mr4(1))], 14000, "accepted 8 8 2")
+    bad("heat-saves-20-for-now", fed + [(7749, mr4(5))], 40000, 11, 19, 13960, place=10)
+    bad("heat-saves-not-19", [(28080, mr4(3))], 28080, 11, 19, 28080)
+    bad("heat-saves-not-19-longest", [(28080, mr4(1))], 28080, 11, 19, 28080)
+    good("heat-just-before-19", [(28079, mr4(1))], 28079, "accepted 0 0 8")
+    bad("heat-just-before-19-late", [(28079, mr4(1))], 28080, 11, 19, 28080, place=1)
+
+
+def heat_form_cases():
+    """5, 26 and the order of the checks; what a field prints and counts, and that it moves nothing else."""
+    lines = ["0 ACT 0", "20 RD 0", "36 PRE 0", "200 REFAB -", "accepted 4 1 -1"]
+    entries = [(0, act(0)), (1, mr4(3)), (2, mr4(4)), (20, rd(0)), (30, mr4(6)), (36, pre(0)), (200, REFAB), (300, mr4(5))]
+    assert paper.judge(trace(entries, 300)) == lines
+    good("heat-lines", entries, 300, lines[-1])
+    good("heat-alone", [(7, mr4(3))], 7, "accepted 0 0 0")
+    good("heat-rises", [(0, mr4(3)), (1, NOP), (2, mr4(4)), (3, mr4(5)), (4, NOP)], 4)
+    for name, entries in (("same", [(7, NOP), (7, mr4(3))]), ("below", [(7, NOP), (6, mr4(3))]), ("same-heat", [(7, mr4(3)), (7, mr4(3))]), ("below-heat", [(7, mr4(3)), (6, mr4(3))]),
+                          ("behind", [(7, mr4(3)), (7, NOP)]), ("below-behind", [(7, NOP), (9, mr4(3)), (8, act(0))]), ("at-0", [(0, mr4(3)), (0, NOP)])):
+        bad("5-heat-" + name, entries, 20, 5)
+    bad("5-heat-end", [(3, NOP), (7, mr4(3))], 6, 5, place=2)
+    for value in (0x00, 0x07, 0xF8, 0xFF):
+        bad("26-%02x" % value, [(3, act(0)), (9, mr4(value))], 20, 26)
+    for value, owed in ((0xF9, 1), (0xFA, 1), (0x0B, 1), (0xFC, 3), (0x85, 6), (0x7E, 6)):
+        good("heat-op-%02x" % value, [(0, mr4(value))], 4680, "accepted 0 0 %d" % owed)
+    bad("order-5-26", [(7, NOP), (7, mr4(0))], 20, 5)
+    bad("order-11-26", [(28081, mr4(0))], 28082, 11, 19, 28080)
+    bad("order-26-at-failing", [(28080, mr4(0))], 28082, 26)
+    bad("order-11-heat", [(28081, mr4(3))], 28082, 11, 19, 28080)
+    good("order-refresh-behind-heat", [(28079, mr4(3)), (28080, REFAB)], 28082, "accepted 1 1 8")
+    bound("heat-no-source", [(0, act(0)), (1, mr4(3)), (13, mr4(4))], 14, rd(0), 7, 15)
+    bound("heat-not-among-four", [(8 * k, act(k)) for k in range(4)] + [(30, mr4(3)), (31, mr4(3))], 39, act(4), 11, 40)
+    bad("heat-no-bank", [(0, act(0)), (10, mr4(3)), (60, act(0))], 70, 8)
+    good("heat-no-delay", [(0, mrw(1, 3)), (1, mr4(3)), (10, REFAB), (11, mr4(4))], 20, "accepted 2 1 -1")
+
+
+def heat_raise_cases():
+    """Code 110: on the bench card 1,875 ps more make tRCD and tRPpb 16 cycles, tRPab 19, tRAS 36, tRRD 10 and tRC 51, by the code at the later entry."""
+    h = dict(hot=1875)
+    for rule, before, pins, hot, cold in (
+            (5, [(0, pre(0))], act(0), 16, 15), (6, [(0, PREA)], act(5), 19, 17), (7, [(0, act(6))], rd(6), 16, 15), (8, [(0, act(0))], pre(0), 36, 34),
+            (9, [(0, act(0)), (16, rd(0, 1))], act(0), 51, 48), (10, [(0, act(0))], act(1), 10, 8), (16, [(0, act(0)), (40, rd(0, 1))], act(0), 62, 61),
+            (18, [(0, act(0)), (16, wr(0, 1))], act(0), 55, 54)):
+        last = before[-1][0]
+        bound("hot-rule%d" % rule, before + [(last + 1, mr4(6))], hot - 1, pins, rule, hot, **h)
+        cooled = [(0, mr4(6))] + [(t + 1, p) for t, p in before] + [(last + 2, mr4(5))]
+        bound("cooled-rule%d" % rule, cooled, cold, pins, rule, cold + 1, **h)
+    for rule, name, before, pins, hot in ((5, "refab", [(0, pre(3))], REFAB, 16), (6, "mrw", [(0, PREA)], mrw(1, 3), 19), (8, "prea", [(0, act(7))], PREA, 36),
+                                          (10, "refpb-act", [(0, REFPB)], act(1), 10), (10, "act-refpb", [(0, act(1))], REFPB, 10)):
+        bad("hot-rule%d-%s" % (rule, name), before + [(1, mr4(6)), (hot - 1, pins)], 60, 10, rule, hot, **h)
+    bad("hot-throughout", [(0, mr4(6)), (1, act(0)), (16, rd(0))], 60, 10, 7, 17, **h)
+    bad("hot-at-last", [(0, act(0)), (14, mr4(6)), (15, wr(0))], 60, 10, 7, 16, **h)
+    good("cooled-at-last", [(0, mr4(6)), (1, act(0)), (15, mr4(3)), (16, wr(0))], 60, **h)
+    bad("hot-op-fe", [(0, act(0)), (1, mr4(0xFE)), (15, rd(0))], 60, 10, 7, 16, **h)
+    # nothing else rises; the cycle that is named is the bound
+    for rule, before, pins, cycle in ((3, [(0, REFAB)], act(0), 104), (4, [(0, REFPB)], REFPB, 48), (11, [(8 * k, act(k)) for k in range(4)], act(4), 40),
+                                      (13, [(0, act(0)), (20, rd(0))], wr(0), 36), (14, [(0, act(0)), (20, wr(0))], rd(0), 37), (15, [(0, act(0)), (40, rd(0))], pre(0), 46),
+                                      (17, [(0, act(0)), (20, wr(0))], pre(0), 43)):
+        bad("hot-same-rule%d" % rule, before + [(before[-1][0] + 1, mr4(6)), (cycle - 1, pins)], 110, 10, rule, cycle, **h)
+    # code 101 raises nothing, nor does 110 without the tag
+    bound("quarter-not-raised", [(0, act(0)), (1, mr4(5))], 14, rd(0), 7, 15, **h)
+    bound("hot-untagged", [(0, act(0)), (1, mr4(6))], 14, rd(0), 7, 15)
+    # before the rounding, on the durations alone, and once for each timing of tRC
+    bound("hot-1-ps", [(0, act(0)), (1, mr4(6))], 8, act(1), 10, 9, hot=1)
+    bound("hot-626-ps-twice", [(0, act(0)), (16, rd(0, 1)), (17, mr4(6))], 49, act(0), 9, 50, hot=626)
+    bound("hot-below-floor", [(0, act(0)), (1, mr4(6))], 39, rd(0), 7, 40, hot=1875, tRCD=(0, 40))
+    # 2,000,000 ps are 2133 cycles of 938 ps, and 4,000,000 ps 4265
+    most, opened = dict(period=938, mr2=0x1E, hot=1000000, tRCD=(1000000, 255), tRAS=(1000000, 255), tRPpb=(1000000, 255)), [(0, mr4(6)), (1, act(0)), (2134, rd(0, 1))]
+    bad("hot-most-rule9", opened + [(4265, act(0))], 4300, 10, 9, 4266, **most)
+    bound("hot-most-rule16", opened, 4274, act(0), 16, 4275, **most)
+
+
+def heat_sleep_cases():
+    """A field in every level. Asleep in self-refresh its number is that of the fall: no cycle there is counted."""
+    s, last = SLEEPS, 2**32 - 1
+    lines = ["10 NOP -", "20 NOP -", "30 NOP -", "accepted 0 0 0"]
+    entries = [(10, DOWN), (12, mr4(3)), (20, 0), (25, mr4(4)), (30, WAKE), (31, mr4(5))]
+    assert paper.judge(trace(entries, 40, card(**s))) == lines
+    good("heat-asleep-lines", entries, 40, lines[-1], **s)
+    bad("heat-asleep-rule21", [(10, DOWN), (12, mr4(3)), (15, WAKE)], 60, 10, 21, 16, **s)
+    good("heat-power-down", [(10, DOWN), (20, mr4(5))], 800 + 8 * 780 - 1, "accepted 0 0 8", **s)
+    bad("heat-power-down-late", [(10, DOWN), (20, mr4(5))], 800 + 8 * 780, 11, 19, 800 + 8 * 780, place=2, **s)
+    bad("heat-power-down-at-failing", [(10, DOWN), (28080, mr4(3))], 28080, 11, 19, 28080, **s)
+    slept = [(100, SELF), (5000, mr4(5)), (100100, WAKE)]
+    good("heat-self-refresh", slept, 100000 + 880 + 8 * 780 - 1, "accepted 0 0 8", **s)
+    bad("heat-self-refresh-late", slept, 100000 + 880 + 8 * 780, 11, 19, 100000 + 880 + 8 * 780, place=3, **s)
+    eight = [(104 * k, REFAB) for k in range(8)] + [(832, SELF), (5000, mr4(5)), (100832, WAKE)]
+    good("heat-self-refresh-gap", eight, 100832 + 7020, **s)
+    bad("heat-self-refresh-gap-late", eight, 100832 + 7021, 11, 20, 100832 + 7021, place=11, **s)
+    # a due at the fall, and one that the fall puts off
+    good("heat-due-at-the-fall", [(3120, SELF), (4000, mr4(4)), (5000, WAKE)], 6559, "accepted 0 0 1", **s)
+    good("heat-due-at-the-fall-next", [(3120, SELF), (4000, mr4(4)), (5000, WAKE)], 6560, "accepted 0 0 2", **s)
+    good("heat-due-behind-the-fall", [(3119, SELF), (4000, mr4(1)), (5000, WAKE)], 5000, "accepted 0 0 0", **s)
+    good("heat-due-behind-the-fall-next", [(3119, SELF), (4000, mr4(1)), (5000, WAKE)], 5001, "accepted 0 0 1", **s)
+    good("heat-asleep-twice", [(100, SELF), (200, mr4(5)), (300, mr4(1)), (1000, WAKE), (1779, NOP)], 1780 + 12479, "accepted 0 0 1", **s)
+    good("heat-self-refresh-put-off", [(28079, SELF), (40000, mr4(1)), (50000, WAKE)], 50000, "accepted 0 0 8", **s)
+    bad("heat-self-refresh-put-off-late", [(28079, SELF), (40000, mr4(1)), (50000, WAKE)], 50001, 11, 19, 50001, place=3, **s)
+    for name, fall in (("power-down", DOWN), ("self-refresh", SELF)):
+        bad("26-" + name, [(10, fall), (20, mr4(7))], 60, 26, **s)
+    bad("5-heat-asleep", [(10, SELF), (10, mr4(3))], 60, 5, **s)
+    bad("16-heat", [(10, DEEP), (50000, mr4(3))], 60000, 16, **s)
+    bad("order-16-26", [(10, DEEP_H), (20, mr4(0))], 60, 16, **s)
+    bad("order-5-16-heat", [(10, DEEP), (10, mr4(3))], 60, 5, **s)
+    bad("5-heat-end-asleep", [(10, SELF), (20, mr4(3))], 19, 5, place=2, **s)
+    # the delays of a fall are raised as those of REFab, and 21 to 24 are not
+    hot = sleeper(hot=1875)
+    for rule, before, fall, cycle in ((5, [(0, pre(3))], SELF, 16), (6, [(0, PREA)], DEEP, 19), (9, [(0, act(0)), (16, rd(0, 1))], SELF_PB, 51)):
+        bad("hot-fall-rule%d" % rule, before + [(before[-1][0] + 1, mr4(6)), (cycle - 1, fall)], 60, 10, rule, cycle, **hot)
+    bad("hot-same-rule21", [(10, DOWN), (11, mr4(6)), (15, WAKE)], 60, 10, 21, 16, **hot)
+    bad("hot-same-rule22", [(10, DOWN), (20, WAKE), (21, mr4(6)), (27, act(0))], 60, 10, 22, 28, **hot)
+    bad("hot-same-rule24", [(10, SELF), (11, mr4(6)), (30, WAKE), (141, act(0))], 200, 10, 24, 142, **hot)
+    # the last of the 32-bit cycles
+    woken = [(60, SELF), (last - 199, WAKE)]
+    good("heat-far", woken + [(last - 87, REFAB), (last, mr4(4))], last, "accepted 1 1 -1", **s)
+    good("heat-far-asleep", [(60, SELF), (last - 1, mr4(1)), (last, mr4(5))], last, "accepted 0 0 0", **s)
+    bad("5-heat-far", [(60, SELF), (last, mr4(1)), (last, 0)], last, 5, **s)
+    bad("hot-far", woken + [(last - 9, act(0)), (last - 4, mr4(6)), (last, rd(0))], last, 10, 7, last + 7, **hot)
+    # intervals of 20, 10 and 5 cycles: numbers are lower by 2^32 - 105
+    near = [(5, SELF), (last - 99, WAKE)]
+    good("heat-far-due", near + [(last - 49, mr4(4))], last, "accepted 0 0 7", **sleeper(tREFI=25000))
+    bad("heat-far-due-late", near + [(last - 49, mr4(5))], last, 11, 19, last - 14, place=3, **sleeper(tREFI=25000))
+
+
+def heat_parts_cases():
+    """Two parts: one schedule for both, and both gaps begin anew."""
+    g, h = dict(gap=2), dict(gap=2, hot=1875)
+    lines = ["0 ACT 3 1", "20 RD 3 1", "30 NOP - -", "accepted 2 0 0 0"]
+    entries = [(0, to(1, act(3))), (1, mr4(3)), (20, to(1, rd(3))), (21, mr4(6)), (30, NEITHER)]
+    assert paper.judge(trace(entries, 40, card(**h))) == lines
+    good("parts-heat-lines", entries, 40, lines[-1], **h)
+    good("parts-heat-idle", [(0, mr4(5))], 7019, "accepted 0 0 8 8", **g)
+    bad("parts-heat-idle-late", [(0, mr4(5))], 7020, 11, 19, 7020, place=1, **g)
+    bad("5-parts-heat", [(7, to(1, NOP_LOW)), (7, mr4(3))], 20, 5, **g)
+    bad("5-parts-heat-behind", [(7, mr4(3)), (7, NEITHER)], 20, 5, **g)
+    bad("26-parts", [(7, to(0, act(0))), (9, mr4(0x80))], 20, 26, **g)
+    both = sorted([(104 * k, to(0, REFAB)) for k in range(8)] + [(104 * k + 50, to(1, REFAB)) for k in range(8)])
+    good("parts-heat-gap", both + [(1000, mr4(3))], 29080, "accepted 16 16 1 1", **g)
+    bad("parts-heat-gap-late", both + [(1000, mr4(3))], 29081, 11, 20, 29081, place=17, **g)
+    good("parts-heat-saves-20", both + [(28809, mr4(5))], 28860, "accepted 16 16 1 1", **g)
+    for p, q in ((0, 1), (1, 0)):
+        n, fed = "-%d" % p, [(0, mr4(4)), (10000, to(p, REFAB))]
+        good("parts-heat-starved" + n, fed, 14039, "accepted 1 1 " + {0: "7 8", 1: "8 7"}[p], **g)
+        bad("parts-heat-starved-late" + n, fed, 14040, 11, 19, 14040, place=2, **g)
+        bad("parts-heat-starved-at-heat" + n, fed + [(14040, mr4(1))], 14040, 11, 19, 14040, **g)
+        good("parts-heat-starved-saved" + n, fed + [(14040, to(q, REFAB))], 14040, "accepted 2 2 8 8", **g)
+        own = [(0, to(p, act(0))), (1, to(q, act(0))), (2, mr4(6))]
+        bound("parts-hot" + n, own[:1] + [(2, mr4(6))], 15, to(p, rd(0)), 7, 16, **h)
+        bad("parts-hot-other" + n, own + [(36, to(q, pre(0)))], 60, 10, 8, 37, **h)
+        bad("parts-hot-bus" + n, own + [(20, to(p, rd(0))), (25, to(q, rd(0)))], 60, 10, 25, 26, **h)
+    # 20 against 19 at one cycle, dues at 1780 and every 780 behind it
+    for p, q, rule in ((0, 1, 20), (1, 0, 19)):
+        n, tied = "-%d" % p, [(1000, mr4(5)), (1675, to(p, REFAB)), (1779, to(p, REFAB)), (1800, to(q, REFAB))]
+        good("parts-heat-tie" + n, tied, 8799, "accepted 3 3 " + {0: "7 8", 1: "8 7"}[p], **g)
+        bad("parts-heat-tie-late" + n, tied, 8800, 11, rule, 8800, place=4, **g)
+        bad("parts-heat-tie-saved-20" + n, tied + [(8800, mr4(3))], 8800, 11, 19, 8800, **g)
+        bad("parts-heat-tie-saved-19" + n, tied + [(8800, to(q, REFAB))], 8800, 11, 20, 8800, **g)
+
+
+def heat_tag_cases():
+    """Tag 26 once and behind all other card tags; tag 34 behind a card that is whole."""
+    fields, sleeps = card_fields(), card_fields(**SLEEPS)[18:]
+    bench, asleep, gap, hot = b"".join(fields), card(**SLEEPS), field(25, bytes([2])), field(26, num(1875, 4))
+    heat, more = entry(5, mr4(4)), trace([(10, NOP)], 60, b"")
+    for value in (0, 1000000):
+        case("26-of-%d" % value, bench + field(26, num(value, 4)) + more, "accepted 0 0 0")
+    for value in (1000001, 2**32 - 1):
+        case("4-26-of-%d" % value, bench + field(26, num(value, 4)) + more, "refused 4 0 135 0")
+    good("26-behind-22", [(10, DOWN)], 60, "accepted 0 0 0", **sleeper(hot=1875))
+    good("26-behind-25", [(10, NEITHER)], 60, "accepted 0 0 0 0", gap=2, hot=1875)
+    case("4-26-behind-22", asleep + field(26, num(1000001, 4)) + more, "refused 4 0 167 0")
+    case("4-25-before-26", asleep + gap + hot + more, "refused 4 0 167 0")
+    case("1-26-cut-behind-25", bench + gap + hot[:6], "refused 1 0 139 0")
+    case("2-26-twice", bench + hot + hot + more, "refused 2 0 142 0")
+    case("2-26-twice-behind-25", bench + gap + hot + hot + more, "refused 2 0 146 0")
+    for size in (3, 5):
+        case("3-26-%d" % size, bench + field(26, num(1, size)) + more, "refused 3 0 135 0")
+    case("2-26-before-18", b"".join(fields[:17]) + hot + fields[17] + more, "refused 2 0 127 0")
+    for k in (1, 2, 3):
+        case("2-26-behind-%d" % (18 + k), bench + b"".join(sleeps[:k]) + hot, "refused 2 0 %d 0" % (135 + 8 * k))
+    for tag in (19, 23, 25, 27):
+        case("2-%d-behind-26" % tag, bench + hot + bytes([tag]), "refused 2 0 142 0")
+    case("2-26-behind-an-entry", bench + entry(0, NOP) + hot + end(5), "refused 2 0 145 0")
+    case("12-26-behind-the-end", bench + end(5) + hot, "refused 12 0 142 0")
+    # tag 34
+    case("34-behind-18", bench + heat + end(5), "accepted 0 0 0")
+    case("34-behind-22", asleep + heat + end(5), "accepted 0 0 0")
+    case("34-behind-25", bench + gap + heat + end(5), "accepted 0 0 0 0")
+    case("34-behind-26", bench + hot + heat + end(5), "accepted 0 0 0")
+    case("1-34-last-byte", bench + entry(0, NOP) + heat[:1], "refused 1 0 145 0")
+    case("1-34-cut", bench + entry(0, NOP) + heat[:7], "refused 1 0 145 0")
+    for name, head in (("4", [0, 4]), ("7", [0, 7]), ("high", [1, 5])):
+        case("3-34-" + name, bench + bytes([34] + head) + num(0, 7) + end(5), "refused 3 0 135 0")
+    case("2-34-first", heat + bench, "refused 2 0 0 0")
+    case("2-34-behind-17", b"".join(fields[:17]) + heat, "refused 2 0 127 0")
+    case("2-34-behind-19", bench + sleeps[0] + heat, "refused 2 0 143 0")
+    for tag in (1, 19, 25, 26, 35):
+        case("2-%d-behind-34" % tag, bench + heat + bytes([tag]), "refused 2 0 143 0")
+    case("12-34-behind-the-end", bench + end(5) + heat, "refused 12 0 142 0")
 
 
 def example_cases():
@@ -632,10 +914,12 @@ def example_cases():
 
 
 SMALL = {"cuts": trace([(0, act(0)), (15, rd(0))], 20), "cuts-asleep": trace([(0, DOWN), (15, WAKE), (23, act(0))], 40, card(**SLEEPS)),
-         "cuts-parts": trace([(0, to(0, act(0))), (1, to(1, act(0))), (16, to(1, rd(0)))], 40, card(gap=2))}
+         "cuts-parts": trace([(0, to(0, act(0))), (1, to(1, act(0))), (16, to(1, rd(0)))], 40, card(gap=2)),
+         "cuts-heat": trace([(0, act(0)), (5, mr4(6)), (16, rd(0)), (17, mr4(0x83))], 40, card(hot=1875))}
 
 for build in (bench_cases, rule_cases, mr2_cases, refusal_cases, order_cases, account_cases, form_cases, move_cases, sleep_rule_cases, sleep_account_cases,
-              sleep_tag_cases, parts_pins_cases, parts_own_cases, parts_bus_cases, parts_account_cases, parts_tag_cases, example_cases):
+              sleep_tag_cases, parts_pins_cases, parts_own_cases, parts_bus_cases, parts_account_cases, parts_tag_cases, heat_interval_cases, heat_due_cases,
+              heat_gap_cases, heat_form_cases, heat_raise_cases, heat_sleep_cases, heat_parts_cases, heat_tag_cases, example_cases):
     build()
 
 shutil.rmtree("data", ignore_errors=True)

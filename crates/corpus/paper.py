@@ -1,13 +1,17 @@
-"""Document 01 with requests One and Nine of document 02 in Python, over the list of entries and cycle by cycle: slow and plain, written from the documents alone. It knows
-nothing of the Rattle code."""
+"""Document 01 with requests One, Nine and Eleven of document 02 in Python, over the list of entries and cycle by cycle: slow and plain, written from the documents alone. It
+knows nothing of the Rattle code."""
 
 TIMINGS = ["tRCD", "tRPpb", "tRPab", "tRAS", "tRRD", "tFAW", "tRTP", "tWR", "tWTR", "tDQSCK", "tRFCab", "tRFCpb", "tMRR", "tMRW"]
 SLEEPS = ["tCKE", "tXP", "tCKESR", "tXSR"]
-SIZES = {1: 4, 2: 1, 3: 2, 4: 4, **{5 + k: 5 for k in range(18)}, 25: 1, 32: 7, 33: 4}
+SIZES = {1: 4, 2: 1, 3: 2, 4: 4, **{5 + k: 5 for k in range(18)}, 25: 1, 26: 4, 32: 7, 33: 4, 34: 5}
 #       code: (least ps, RL, WL A, WL B)
 ROWS = {1: (6000, 3, 1, 1), 4: (2500, 6, 3, 3), 6: (1875, 8, 4, 4), 7: (1670, 9, 5, 5), 8: (1500, 10, 6, 8), 9: (1360, 11, 6, 9),
         10: (1250, 12, 6, 9), 12: (1071, 14, 8, 11), 14: (938, 16, 8, 13)}
 MAS = {1, 2, 3, 11, 16, 17}
+# OP2-0 of MR4: the interval in quarters of tREFI; what code 110 raises
+QUARTERS = {1: 16, 2: 8, 3: 4, 4: 2, 5: 1, 6: 1}
+PLAIN, HOT = 3, 6
+RAISED = ("tRCD", "tRPpb", "tRPab", "tRAS", "tRRD")
 
 
 def mr2_good(period, v):
@@ -30,17 +34,18 @@ class Card:
     """Fields by tag, as they come; a timing is (duration, floor), the gap None without tag 25."""
 
     def __init__(self):
-        self.timing, self.sleeps, self.gap = {}, False, None
+        self.timing, self.sleeps, self.gap, self.more = {}, False, None, 0
 
-    def n(self, name):
-        d, f = self.timing[name]
-        return max(f, up(d, self.period))
+    def delays(self, code):
+        """In cycles, by the code in force."""
+        timing = {k: (d + (self.more if code == HOT and k in RAISED else 0), f) for k, (d, f) in self.timing.items()}
+        t = {k: max(f, up(d, self.period)) for k, (d, f) in timing.items()}
+        (a, f), (b, g) = timing["tRAS"], timing["tRPpb"]
+        t["tRC"] = max(f + g, up(a + b, self.period))
+        return t
 
-    def delays(self):
-        self.t = {k: self.n(k) for k in self.timing}
-        (a, f), (b, g) = self.timing["tRAS"], self.timing["tRPpb"]
-        self.t["tRC"] = max(f + g, up(a + b, self.period))
-        self.interval = self.trefi // self.period
+    def interval(self, code):
+        return max(1, self.trefi * QUARTERS[code] // (4 * self.period))
 
     def take(self, tag, value):
         """Whether the value is in range; if so it is kept."""
@@ -59,6 +64,9 @@ class Card:
         if tag == 25:
             self.gap = x
             return not self.sleeps
+        if tag == 26:
+            self.more = x
+            return x <= 1000000
         d = int.from_bytes(value[:4], "big")
         self.timing[(TIMINGS + SLEEPS)[tag - 5]] = (d, value[4])
         self.sleeps = self.sleeps or tag >= 19
@@ -66,7 +74,7 @@ class Card:
 
 
 class Cmd:
-    """What an entry is. Beside the commands: FALL (`level` says where to), LOW (asleep) and RISE (`level` says where from)."""
+    """What an entry is. Beside the commands: FALL (`level` says where to), LOW (asleep), RISE (`level` says where from), and MR4 for a temperature field."""
 
     def __init__(self, kind, bank=None, ap=False, ma=0, op=0, level=None):
         self.kind, self.bank, self.ap, self.ma, self.op, self.level = kind, bank, ap, ma, op, level
@@ -156,13 +164,19 @@ def level_after(past):
     return move.cmd.level if move is not None and move.cmd.kind == "FALL" else "awake"
 
 
+def code_after(past):
+    """OP2-0 of the latest temperature field."""
+    field = latest(past, lambda e: e.cmd.kind == "MR4")
+    return PLAIN if field is None else field.cmd.op & 7
+
+
 def precharge(past, b):
     return latest(past, lambda e: e.cmd.kind == "PREA" or e.cmd.kind == "PRE" and e.bank == b)
 
 
 def bounds(card, past, cmd, counter):
     """(rule, first permitted cycle), for each entry that a rule counts from."""
-    t, k = card.t, cmd.like()
+    t, k = card.delays(code_after(past)), cmd.like()
     bank = counter if k == "REFPB" else cmd.bank
     every = range(8)
     idle = every if k in ("REFAB", "MRW") else [bank] if k in ("ACT", "REFPB") else []
@@ -233,7 +247,7 @@ def sleep_bounds(t, past, cmd):
 
 def bus_bounds(card, other, cmd):
     """Likewise from the other part's entries."""
-    t, g = card.t, card.gap
+    t, g = card.delays(code_after(other)), card.gap
     of = lambda *kinds: latest(other, lambda e: e.cmd.kind in kinds)
     read, write, any_read, out = of("RD"), of("WR"), of("RD", "MRR"), []
     if cmd.kind in ("RD", "MRR"):
@@ -258,10 +272,11 @@ def first_broken(found, t):
 
 
 class Account:
-    """The ledger after cycle `at`. `count` is the number of counted cycles after cycle 0, and `last` what it was at the last counted refresh."""
+    """The ledger after cycle `at`. `count` is the number of counted cycles after cycle 0, `due` what it will be when the next refresh falls due, and `since` what
+    it was at the later of the last counted refresh and the last temperature field."""
 
     def __init__(self, interval):
-        self.i, self.at, self.owed, self.count, self.last = interval, 0, 0, 0, 0
+        self.i, self.at, self.owed, self.count, self.due, self.since = interval, 0, 0, 0, interval, 0
 
     def copy(self):
         other = Account(self.i)
@@ -272,17 +287,24 @@ class Account:
         self.at += 1
         if counted:
             self.count += 1
-            self.owed += self.count % self.i == 0
+            if self.count == self.due:
+                self.owed += 1
+                self.due += self.i
 
     def refresh(self):
         self.owed = max(-8, self.owed - 1)
-        self.last = self.count
+        self.since = self.count
+
+    def temper(self, interval):
+        """From here on by another interval; what is due at this very cycle has fallen by the old one."""
+        self.i, self.since = interval, self.count
+        self.due = min(self.due, self.count + interval)
 
     def fails(self):
         """The rule that fails after this cycle, or 0."""
         if self.owed > 8:
             return 19
-        return 20 if self.count - self.last > 9 * self.i else 0
+        return 20 if self.count - self.since > 9 * self.i else 0
 
     def idle(self, upto, counted):
         """Goes on through `upto`, or to the first cycle that fails: then (rule, cycle)."""
@@ -299,7 +321,7 @@ class Part:
     """The entries of one part, and what they leave behind."""
 
     def __init__(self, card):
-        self.past, self.account = [], Account(card.interval)
+        self.past, self.account = [], Account(card.interval(PLAIN))
         self.open, self.counter, self.mr2 = set(), 0, card.mr2
 
     def counts_next(self):
@@ -344,10 +366,9 @@ def earliest(fails):
 
 class Judge:
     def __init__(self, card):
-        card.delays()
         self.card, self.two = card, card.gap is not None
         self.parts = [Part(card) for _ in range(2 if self.two else 1)]
-        self.entries = []  # (part or None, entry), both parts together
+        self.entries = []  # (part or None, entry), both parts and temperature fields together
 
     def read(self, pins):
         return read_pair(pins) if self.two else (0, read(pins, self.card.sleeps, level_after(self.parts[0].past)))
@@ -357,34 +378,60 @@ class Judge:
         accounts = [p.account.copy() for p in self.parts]
         return accounts, earliest([a.idle(upto, p.counts_next()) for a, p in zip(accounts, self.parts)])
 
-    def entry(self, t, pins):
-        """None, or (number, rule, cycle)."""
+    def reach(self, t):
+        """Each part's account before this stamp, and 5 or 11 as (number, rule, cycle)."""
         if self.entries and t <= self.entries[-1][1].t:
-            return 5, 0, 0
+            return None, (5, 0, 0)
         accounts, late = self.walk(t - 1)
-        if late:
-            return 11, *late
-        which, cmd = self.read(pins)
-        if isinstance(cmd, int):
-            return cmd, 0, 0
-        part = self.parts[which or 0]
-        bad = self.command(t, which, part, cmd)
-        if bad:
-            return bad
+        return accounts, (11, *late) if late else None
+
+    def settle(self, t, accounts, change):
+        """Takes the accounts through this stamp, each changed there, and keeps them unless 11 comes."""
         for a, p in zip(accounts, self.parts):
             if a.at < t:
                 a.tick(p.counts_next())
-            if p is part and p.refreshed_by(cmd):
-                a.refresh()
+            change(a, p)
         late = earliest([(a.fails(), t) if a.fails() else None for a in accounts])
         if late:
             return 11, *late
         for a, p in zip(accounts, self.parts):
             p.account = a
+        return None
+
+    def entry(self, t, pins):
+        """None, or (number, rule, cycle)."""
+        accounts, bad = self.reach(t)
+        if bad:
+            return bad
+        which, cmd = self.read(pins)
+        if isinstance(cmd, int):
+            return cmd, 0, 0
+        part = self.parts[which or 0]
+        bad = self.command(t, which, part, cmd) or self.settle(t, accounts, lambda a, p: a.refresh() if p is part and p.refreshed_by(cmd) else None)
+        if bad:
+            return bad
         e = Entry(t, cmd, part.mr2, part.counter)
         self.entries.append((which, e))
         if which is not None:
             part.change(e)
+        return None
+
+    def temperature(self, t, value):
+        """Likewise, of a temperature field, which is among every part's entries."""
+        accounts, bad = self.reach(t)
+        if bad:
+            return bad
+        if level_after(self.parts[0].past) == "deep":
+            return 16, 0, 0
+        if value & 7 not in QUARTERS:
+            return 26, 0, 0
+        bad = self.settle(t, accounts, lambda a, p: a.temper(self.card.interval(value & 7)))
+        if bad:
+            return bad
+        e = Entry(t, Cmd("MR4", op=value), None, None)
+        self.entries.append((None, e))
+        for p in self.parts:
+            p.past.append(e)
         return None
 
     def command(self, t, which, part, cmd):
@@ -409,7 +456,7 @@ class Judge:
 
     def counts(self):
         past = [x for _, x in self.entries]
-        commands = sum(x.cmd.kind not in ("NOP", "FALL", "LOW", "RISE") for x in past)
+        commands = sum(x.cmd.kind not in ("NOP", "FALL", "LOW", "RISE", "MR4") for x in past)
         counted = sum(x.cmd.kind == "REFAB" or x.cmd.kind == "REFPB" and x.counter == 7 for x in past)
         return [commands, counted] + [p.account.owed for p in self.parts]
 
@@ -424,7 +471,7 @@ def may_come(last):
     """The tags that may stand behind this one; 19 to 22 come all four or not at all."""
     if last < 18 or 19 <= last < 22:
         return (last + 1,)
-    return {18: (19, 25, 32, 33), 22: (25, 32, 33)}.get(last, (32, 33))
+    return {18: (19, 25, 26), 22: (25, 26), 25: (26,)}.get(last, ()) + (32, 33, 34)
 
 
 def judge(data):
@@ -448,7 +495,7 @@ def judge(data):
         value = data[at + 3:at + 3 + size]
         if len(value) < size:
             return refused(1)
-        if got <= 25:
+        if got < 32:
             if not card.take(got, value):
                 return refused(4)
         elif run is None:
@@ -458,6 +505,10 @@ def judge(data):
             if bad:
                 return refused(*bad)
             lines.append(run.line())
+        elif got == 34:
+            bad = run.temperature(int.from_bytes(value[:4], "big"), value[4])
+            if bad:
+                return refused(*bad)
         elif got == 33:
             e = int.from_bytes(value, "big")
             bad = run.end(e)

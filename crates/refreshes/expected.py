@@ -1,15 +1,47 @@
 #!/usr/bin/env python3
-# What refreshes is to write, from document 01's account and request One of document 02, cycle by cycle wherever something can happen:
+# What refreshes is to write, from document 01's account and requests One and Eleven of document 02, cycle by cycle wherever something can happen:
 #   python3 crates/refreshes/expected.py > crates/refreshes/stdout
 # A line: the refusal's number, rule and cycle, then the ledger: at, owed + 8, since, skipped, and the level, from 0 for awake to 3 for deep power-down.
+# Of a pace: its next due and MR4. Of a deadline: the cycle.
 from collections import namedtuple
 
-INTERVAL = 3900000 // 1250
 LAST = 2**32 - 1
 AWAKE, POWER_DOWN, SELF_REFRESH, DEEP = range(4)
 
+# what the account asks of a card
+Card = namedtuple("Card", "period trefi good", defaults=(1250, 3900000, True))
+BENCH = Card()
+
 # `since` is a number among the counted cycles
 Ledger = namedtuple("Ledger", "at owed since skipped level", defaults=(0, 0, 0, 0, AWAKE))
+
+# one due at number `next`, none before it, and one every interval after it
+Pace = namedtuple("Pace", "next mr4")
+
+# tREFI is taken so many quarter times by OP2-0; a code that no field may have counts as 011
+QUARTERS = {1: 16, 2: 8, 3: 4, 4: 2, 5: 1, 6: 1}
+
+
+def interval(card, mr4):
+    return max(1, card.trefi * QUARTERS.get(mr4 % 8, 4) // (4 * card.period))
+
+
+def first_pace(card):
+    return Pace(interval(card, 3), 3)
+
+
+FIRST = first_pace(BENCH)
+
+
+def due_after(card, pace, n):
+    """The first due after number n."""
+    span = interval(card, pace.mr4)
+    return pace.next if n < pace.next else pace.next + ((n - pace.next) // span + 1) * span
+
+
+def respaced(card, pace, n, mr4):
+    """After a field at number n, where the old dues count."""
+    return Pace(min(due_after(card, pace, n), n + interval(card, mr4)), mr4)
 
 
 def number(ledger):
@@ -21,55 +53,67 @@ def counts(ledger):
     return ledger.level in (AWAKE, POWER_DOWN)
 
 
-def rules(n, owed, since):
+def rules(card, pace, n, owed, since):
     """19 before 20 after a cycle; None where both hold."""
     if owed > 8:
         return 19
-    return 20 if n - since > 9 * INTERVAL else None
+    return 20 if n - since > 9 * interval(card, pace.mr4) else None
 
 
-def idle(ledger, to):
+def idle(ledger, pace, to, card):
     """After each counted cycle up to `to`, one after the other: the ledger then, or the refusal."""
     n = number(ledger)
     begun, stop, owed = n, n + (to - ledger.at if counts(ledger) else 0), ledger.owed
     while n < stop:
-        due = (n // INTERVAL + 1) * INTERVAL
-        late = max(n + 1, ledger.since + 9 * INTERVAL + 1)
+        due = due_after(card, pace, n)
+        late = max(n + 1, ledger.since + 9 * interval(card, pace.mr4) + 1)
         n = min(due, late, stop)
-        owed += n % INTERVAL == 0
-        rule = rules(n, owed, ledger.since)
+        owed += n == due
+        rule = rules(card, pace, n, owed, ledger.since)
         if rule:
             return (11, rule, ledger.at + n - begun), ledger
     return (0, 0, 0), ledger._replace(at=to, owed=owed, skipped=to - n)
 
 
-def refused(ledger, to, card_good=True):
-    if not card_good or not -8 <= ledger.owed <= 8 or ledger.since > number(ledger):
+def refused(ledger, to, card):
+    if not card.good or not -8 <= ledger.owed <= 8 or ledger.since > number(ledger):
         return (13, 0, 0)
     return (5, 0, 0) if to < ledger.at else None
 
 
-def moved(ledger, to, card_good=True):
-    bad = refused(ledger, to, card_good)
-    return (bad, ledger) if bad else idle(ledger, to)
+def moved(ledger, to, pace=FIRST, card=BENCH):
+    bad = refused(ledger, to, card)
+    return (bad, ledger) if bad else idle(ledger, pace, to, card)
 
 
-def entered(ledger, stamp, counted, level=AWAKE, card_good=True):
-    """An entry at this stamp, a counted refresh or not, that leaves the part at this level."""
-    bad = refused(ledger, stamp, card_good)
+def entered(ledger, stamp, counted, level=None, sensed=False, pace=FIRST, card=BENCH):
+    """An entry at this stamp, a counted refresh or a temperature or neither, that leaves the part at this level, or where it is."""
+    bad = refused(ledger, stamp, card)
     if bad:
         return bad, ledger
     n, owed, since = number(ledger), ledger.owed, ledger.since
     if ledger.at < stamp:
-        told, here = idle(ledger, stamp - 1)
+        told, here = idle(ledger, pace, stamp - 1, card)
         if told[0]:
             return told, ledger
-        n, owed = number(here) + counts(ledger), here.owed
-        owed += counts(ledger) and n % INTERVAL == 0
+        n, owed = number(here), here.owed
+        if counts(ledger):
+            owed += due_after(card, pace, n) == n + 1
+            n += 1
     if counted:
-        owed, since = max(owed - 1, -8), n
-    rule = rules(n, owed, since)
-    return ((11, rule, stamp), ledger) if rule else ((0, 0, 0), Ledger(stamp, owed, since, stamp - n, level))
+        owed = max(owed - 1, -8)
+    if counted or sensed:
+        since = n
+    rule = rules(card, pace, n, owed, since)
+    stays = ledger.level if level is None else level
+    return ((11, rule, stamp), ledger) if rule else ((0, 0, 0), Ledger(stamp, owed, since, stamp - n, stays))
+
+
+def deadline(ledger, pace=FIRST, card=BENCH):
+    """The first cycle that fails with no counted refresh; 0 where there is none."""
+    if refused(ledger, ledger.at, card) or not counts(ledger):
+        return 0
+    return idle(ledger, pace, 2 * LAST, card)[0][2]
 
 
 def show(answer):
@@ -112,8 +156,8 @@ show(moved(Ledger(5, 0, 6), 4))
 show(moved(Ledger(5, 0, 5), 4))
 show(entered(Ledger(5, 247), 9, True))
 show(entered(Ledger(5, 0, 5), 4, True))
-show(moved(fresh, 1, card_good=False))
-show(entered(fresh, 1, False, card_good=False))
+show(moved(fresh, 1, card=BENCH._replace(good=False)))
+show(entered(fresh, 1, False, card=BENCH._replace(good=False)))
 
 # power-down: as awake
 down = show(entered(fresh, 10, False, POWER_DOWN))
@@ -170,6 +214,91 @@ show(entered(late, 30001, True, AWAKE))
 show(moved(Ledger(30000, 0, 0, 2000), 30080))
 show(moved(Ledger(30000, 0, 0, 2000, POWER_DOWN), 30081))
 show(entered(Ledger(100, 3, 0, 50, SELF_REFRESH), 200, True, DEEP))
+
+
+# ---- temperatures
+def show_pace(pace):
+    print(*pace)
+    return pace
+
+
+def senses(ledger, pace, stamp, mr4):
+    """A field, and what the dues and the gap are from there on."""
+    ledger = show(entered(ledger, stamp, False, sensed=True, pace=pace))
+    pace = show_pace(respaced(BENCH, pace, number(ledger), mr4))
+    print(deadline(ledger, pace))
+    return ledger, pace
+
+
+for mr4 in (0, 1, 2, 3, 4, 5, 6, 7, 0b11111001):
+    show(moved(fresh, LAST, Pace(3120, mr4)))
+    show(moved(Ledger(0, -8), LAST, Pace(3120, mr4)))
+    show(entered(fresh, 9360, True, pace=Pace(3120, mr4)))
+    for stamp in (1000, 3119, 3120, 3121):
+        ledger, pace = senses(fresh, FIRST, stamp, mr4)
+        for to in (3899, 3900, 6240, LAST):
+            show(moved(ledger, to, pace))
+
+# where the gap would be too long a field saves the trace; where the ledger is it does not
+show(entered(Ledger(0, -8), 28081, False))
+show(entered(Ledger(0, -8), 28081, False, sensed=True))
+show(entered(Ledger(0, -8), 28082, False, sensed=True))
+full = show(moved(fresh, 28079))
+show(entered(full, 28080, False, sensed=True))
+show(entered(full, 28080, True, sensed=True))
+
+# asleep the number stays
+for stamp, mr4 in ((3119, 5), (3120, 1), (3120, 4)):
+    ledger, pace = senses(entered(fresh, stamp, False, SELF_REFRESH)[1], FIRST, 5000, mr4)
+    awake = show(entered(ledger, 6000, False, AWAKE, pace=pace))
+    show(moved(awake, 6001, pace))
+    show(moved(awake, LAST, pace))
+ledger, pace = senses(entered(fresh, 10, False, POWER_DOWN)[1], FIRST, 3120, 5)
+show(moved(ledger, 3900, pace))
+show(moved(ledger, LAST, pace))
+
+# a next due of any kind
+for mr4 in (1, 3, 5):
+    for due in (0, 1, 9999, 10000, 10001, 16021, 16022, LAST, LAST + 1, 2**40, 2**64 - 2, 2**64 - 1):
+        ledger, pace = Ledger(10000, 0, 9000), Pace(due, mr4)
+        for to in (10000, 10001, 10780, LAST):
+            show(moved(ledger, to, pace))
+        show(entered(ledger, 10001, True, pace=pace))
+        show(entered(ledger, 17000, False, pace=pace))
+        print(deadline(ledger, pace))
+        for code in (1, 6):
+            show_pace(respaced(BENCH, pace, 10000, code))
+
+# deadlines: none, and the farthest
+print(deadline(Ledger(5, 9)))
+print(deadline(Ledger(5, 0, 6)))
+print(deadline(Ledger(level=DEEP)))
+print(deadline(Ledger(LAST, 8, LAST), Pace(2**64 - 1, 1)))
+print(deadline(Ledger(LAST, -8, LAST), Pace(0, 1)))
+
+# an interval of one cycle
+slow = Card(100000, 100000)
+show_pace(first_pace(slow))
+pace = show_pace(respaced(slow, Pace(100, 3), 4, 5))
+show(moved(Ledger(4, 0, 4), 12, pace, slow))
+show(moved(Ledger(4, 0, 4), 13, pace, slow))
+show(moved(Ledger(4, -8, 4), 14, pace, slow))
+show(entered(Ledger(4, 0, 4), 13, True, pace=pace, card=slow))
+
+# the pace of a card out of range
+odd = Card(1, LAST)
+show_pace(first_pace(odd))
+for due, n in ((0, 0), (0, LAST), (LAST, LAST), (2**64 - 1, 0), (2**64 - 1, LAST)):
+    for old, new in ((1, 1), (6, 2), (255, 0)):
+        show_pace(respaced(odd, Pace(due, old), n, new))
+
+# two refreshes and then a field, of one code after the other
+ledger, pace = fresh, FIRST
+for i in range(60):
+    if i % 3 == 2:
+        ledger, pace = senses(ledger, pace, 700 * (i + 1), i // 3 % 8)
+    else:
+        ledger = show(entered(ledger, 700 * (i + 1), True, pace=pace))
 
 # all cycles
 show(moved(fresh, LAST))

@@ -1,6 +1,6 @@
 #!/usr/bin/env python3
-# What singles is to write, from document 01 and requests One and Nine of document 02: the rules over the lists of the parts' earlier entries, the account cycle by
-# cycle; and its table of calls.
+# What singles is to write, from document 01 and requests One, Nine and Eleven of document 02: the rules over the lists of the parts' earlier entries, the account
+# cycle by cycle; and its table of calls.
 #   python3 crates/singles/expected.py > crates/singles/stdout
 #   python3 crates/singles/expected.py table > crates/singles/src/table.rt
 import importlib.util, pathlib, sys
@@ -16,7 +16,7 @@ BENCH = {
     "period": 1250, "mr2": 0x1A, "R": 8192, "tREFI": 3900000,
     "ps": [18000, 18000, 21000, 42000, 10000, 50000, 7500, 15000, 7500, 5500, 130000, 60000, 0, 0, 0, 0, 0, 0],
     "floor": [3, 3, 3, 3, 2, 8, 4, 4, 4, 0, 0, 0, 4, 10, 0, 0, 0, 0],
-    "sleeps": 0, "paired": 0, "gap": 0,
+    "sleeps": 0, "paired": 0, "gap": 0, "raise": 0,
 }
 # code: least period, RL, WL of set A, of set B
 LATENCIES = {
@@ -41,18 +41,52 @@ def writable(period, mr2):
 
 def card_good(card):
     return (938 <= card["period"] <= 100000 and writable(card["period"], card["mr2"]) and 1 <= card["R"] <= 16384
-            and card["period"] <= card["tREFI"] <= 20000000 and all(ps <= 1000000 for ps in card["ps"]) and not (card["sleeps"] and card["paired"]))
+            and card["period"] <= card["tREFI"] <= 20000000 and all(ps <= 1000000 for ps in card["ps"] + [card["raise"]])
+            and not (card["sleeps"] and card["paired"]))
 
 
 def rounded_up(ps, period):
     return -(-ps // period)
 
 
-def clocks(card):
-    n = {name: max(card["floor"][i], rounded_up(card["ps"][i], card["period"])) for i, name in enumerate(TIMINGS)}
-    ras, rp = TIMINGS.index("tRAS"), TIMINGS.index("tRPpb")
-    n["tRC"] = max(card["floor"][ras] + card["floor"][rp], rounded_up(card["ps"][ras] + card["ps"][rp], card["period"]))
+# by OP2-0 of MR4: how often the quarter of tREFI is taken; 000 and 111, which no field sets, stand for tREFI itself
+QUARTERS = {0b001: 16, 0b010: 8, 0b011: 4, 0b100: 2, 0b101: 1, 0b110: 1, 0b000: 4, 0b111: 4}
+RAISED = ["tRCD", "tRPpb", "tRPab", "tRAS", "tRRD"]
+
+
+def clocks(card, mr4):
+    """With this value of MR4 in force: code 110 adds the picoseconds of tag 26 to five timings; tRC is made of two of them."""
+    raised = card["raise"] if mr4 & 7 == 0b110 else 0
+    ps = {name: card["ps"][i] + raised * (name in RAISED) for i, name in enumerate(TIMINGS)}
+    floor = dict(zip(TIMINGS, card["floor"]))
+    n = {name: max(floor[name], rounded_up(ps[name], card["period"])) for name in TIMINGS}
+    n["tRC"] = max(floor["tRAS"] + floor["tRPpb"], rounded_up(ps["tRAS"] + ps["tRPpb"], card["period"]))
     return n
+
+
+def interval(card, mr4):
+    """tREFI times the code's factor, over the period, rounded down; never below one cycle."""
+    return max(1, card["tREFI"] * QUARTERS[mr4 & 7] // (4 * card["period"]))
+
+
+class Pace:
+    """One for all parts, by the numbers of counted cycles: a due at `next`, which may be any number, none before it, and one every interval after it."""
+
+    def __init__(self, card):
+        self.card, self.mr4, self.next = card, 0b011, interval(card, 0b011)
+
+    def interval(self):
+        return interval(self.card, self.mr4)
+
+    def due(self, number):
+        return self.next <= number and (number - self.next) % self.interval() == 0
+
+    def sense(self, number, mr4):
+        """A field at this number: the earlier of the old next due and one new interval after it."""
+        old = max(self.next, number + 1)
+        while not self.due(old):
+            old += 1
+        self.next, self.mr4 = min(old, number + interval(self.card, mr4)), mr4
 
 
 # ---- the list: each entry with its stamp, its kind (FALL, LOW and RISE beside the commands), its bank, AP, MR2 as it stood, and the level that a rise leaves
@@ -80,10 +114,10 @@ BUS = {"rd": ["RD"], "wr": ["WR"], "turn": ["RD", "MRR"]}
 
 class Part:
     """The list of the part's own entries taken so far; `odd` and `noted` are stamps and MR2 values that were put where the record remembers one. The ledger stands
-    at cycle `at`; `since` is a number among the counted cycles, and of those up to `at` `skipped` are not."""
+    at cycle `at`; `since` is a number among the counted cycles, and of those up to `at` `skipped` are not. The pace is shared."""
 
-    def __init__(self, card):
-        self.card, self.mr2, self.counter, self.past = card, card["mr2"], 0, []
+    def __init__(self, card, pace):
+        self.card, self.pace, self.mr2, self.counter, self.past = card, pace, card["mr2"], 0, []
         self.at, self.number, self.since, self.skipped, self.level = 0, 0, 0, 0, "awake"
         self.odd, self.noted = {}, {}
 
@@ -107,24 +141,21 @@ class Part:
     def runs(self):
         return self.level in ("awake", "power-down")
 
-    def interval(self):
-        return self.card["tREFI"] // self.card["period"]
-
     def due(self, ledger):
         """One counted cycle on."""
         number, since, count = ledger
-        return number + ((count + 1) % self.interval() == 0), since, count + 1
+        return number + self.pace.due(count + 1), since, count + 1
 
     def account(self, t, ledger):
         number, since, count = ledger
         refuse(number > 8, 11, 19, t)
-        refuse(count - since > 9 * self.interval(), 11, 20, t)
+        refuse(count - since > 9 * self.pace.interval(), 11, 20, t)
 
     def counted(self, kind, ledger):
-        """The ledger after an entry of this part."""
+        """The ledger after an entry of this part; the gap counts from a temperature too."""
         if kind == "REFab" or kind == "REFpb" and self.counter == 7:
             return max(ledger[0] - 1, -8), ledger[2], ledger[2]
-        return ledger
+        return (ledger[0], ledger[2], ledger[2]) if kind == "MR4" else ledger
 
     def stand(self, t, ledger):
         self.number, self.since, count = ledger
@@ -161,7 +192,7 @@ class Part:
 
     def delays(self, kind, bank, entry, other):
         """(rule, first permitted cycle) for each clause of each rule that speaks of this command, or of this move; `other` is the other part, if there is one."""
-        n, latest = clocks(self.card), self.latest
+        n, latest = clocks(self.card, self.pace.mr4), self.latest
         everyone = range(8)
         idle = everyone if kind in ("REFab", "MRW") else [bank] if kind in ("ACT", "REFpb") else []
         named = everyone if kind == "PREA" else [bank] if kind == "PRE" else []
@@ -280,7 +311,8 @@ class Judge:
 
     def __init__(self):
         self.card = {k: v[:] if isinstance(v, list) else v for k, v in BENCH.items()}
-        self.last, self.both = None, [Part(self.card), Part(self.card)]
+        self.pace = Pace(self.card)
+        self.last, self.both = None, [Part(self.card, self.pace), Part(self.card, self.pace)]
 
     def parts(self):
         return self.both[:2 if self.card["paired"] else 1]
@@ -298,27 +330,42 @@ class Judge:
     def at_stamp(self, stamp, own, kind, ledgers):
         """The ledgers after the stamp; 11 there, the first part's first."""
         ledgers = [part.due(ledger) if part.at < stamp and part.runs() else ledger for part, ledger in zip(self.parts(), ledgers)]
-        ledgers = [part.counted(kind, ledger) if part is own else ledger for part, ledger in zip(self.parts(), ledgers)]
+        ledgers = [part.counted(kind, ledger) if part is own or kind == "MR4" else ledger for part, ledger in zip(self.parts(), ledgers)]
         for part, ledger in zip(self.parts(), ledgers):
             part.account(stamp, ledger)
         return ledgers
 
     # ---- the calls
-    def step(self, stamp, pins):
+    def opening(self, stamp):
+        """13, 5 and 11 below the stamp; the ledgers there."""
         refuse(not self.good(), 13)
         refuse(self.last is not None and stamp <= self.last or any(stamp < part.at for part in self.parts()), 5)
-        ledgers = idle(self.parts(), stamp - 1)
+        return idle(self.parts(), stamp - 1)
+
+    def stand(self, stamp, ledgers):
+        self.last = stamp
+        for part, ledger in zip(self.parts(), ledgers):
+            part.stand(stamp, ledger)
+
+    def step(self, stamp, pins):
+        ledgers = self.opening(stamp)
         own, read = self.read(pins)
         refuse(read in (6, 24, 7, 16), read)
         kind, numbers = read
         if own:
             own.judge(stamp, kind, numbers, next((part for part in self.parts() if part is not own), None))
-        ledgers = self.at_stamp(stamp, own, kind, ledgers)
-        self.last = stamp
-        for part, ledger in zip(self.parts(), ledgers):
-            part.stand(stamp, ledger)
+        self.stand(stamp, self.at_stamp(stamp, own, kind, ledgers))
         if own:
             own.take(stamp, kind, numbers)
+        return "taken"
+
+    def sense(self, stamp, mr4):
+        """A value of MR4, read back: among each part's own entries, with no command and no delay. Its own cycle falls due by the old pace."""
+        ledgers = self.opening(stamp)
+        refuse(self.card["sleeps"] and not self.card["paired"] and self.both[0].level == "deep", 16)
+        refuse(mr4 & 7 in (0b000, 0b111), 26)
+        self.stand(stamp, self.at_stamp(stamp, None, "MR4", ledgers))
+        self.pace.sense(self.both[0].count(), mr4)
         return "taken"
 
     def end(self, cycle):
@@ -335,8 +382,10 @@ class Judge:
         return lent.number
 
     def put(self, place, value, part):
-        if place in ("period", "R", "tREFI", "sleeps", "paired", "gap"):
+        if place in ("period", "R", "tREFI", "sleeps", "paired", "gap", "raise"):
             self.card[place] = value
+        elif place in ("next", "mr4"):
+            setattr(self.pace, place, value)
         elif place == "starting":
             self.card["mr2"] = value
         elif place in TIMINGS:
@@ -358,7 +407,9 @@ MOVE_PINS = {"POWER-DOWN": 0x100000, "SELF-REFRESH": 0x00000C, "DEEP-POWER-DOWN"
 SLEEPER = ["put sleeps 1", "put tCKE 7500", "put tXP 10000", "put tCKESR 15000", "put tXSR 140000"]
 # with tag 25: a gap of 2 clocks
 PAIR = ["put paired 1", "put gap 2"]
-CARDS = {"sleeper": SLEEPER, "pair": PAIR}
+# with tag 26: 1,875 ps
+HOT = ["put raise 1875"]
+CARDS = {"sleeper": SLEEPER, "pair": PAIR, "hot": HOT}
 
 
 def parted(call):
@@ -393,6 +444,8 @@ def run(judge, call):
         return judge.end(int(words[1]))
     if words[0] == "move":
         return judge.move(int(words[1]), part or 0)
+    if words[0] == "MR4":
+        return judge.sense(int(words[-1]), int(words[1], 16))
     return judge.step(int(words[-1]), pins_of(words[:-2], part))
 
 
@@ -405,11 +458,11 @@ def cases():
 
 
 # ---- the calls, as the program has them: two words each
-PLACES = {"starting": "STARTING_MR2", "R": "GROUPS", "at": "LEDGER_AT", "number": "OWED", "four": "FOUR_COUNT"}
+PLACES = {"starting": "STARTING_MR2", "R": "GROUPS", "at": "LEDGER_AT", "number": "OWED", "four": "FOUR_COUNT", "mr4": "SENSED_MR4"}
 
 
 def words_of(words, part, names):
-    """The first word's name and the second; `names` gathers the pins that are called by a name."""
+    """The first word's name and the second; `names` gathers the pins and the temperatures that are called by a name."""
     if words[0] == "put":
         if words[1:] == ["last", "none"]:
             return "NO_LAST", 0
@@ -417,6 +470,9 @@ def words_of(words, part, names):
         return place, int(words[2], 0) + 8 * (words[1] == "number")
     if words[0] in ("E", "move"):
         return {"E": "END", "move": "MOVE"}[words[0]], int(words[1])
+    if words[0] == "MR4":
+        names["MR4_%s" % words[1]] = 0x2000100 + int(words[1], 16)
+        return "MR4_%s" % words[1], int(words[-1])
     if words[0] == "pins":
         return "0x" + words[1].lower(), int(words[-1])
     name = "MRR" if words[:2] == ["MRR", "0"] else "_".join(words[:-2]).replace("-", "_")
@@ -432,7 +488,10 @@ def rows_of(case, calls, names):
         if words[0] in ("put", "move") and lent != (part or 0):
             lent = part or 0
             rows.append(("PART", lent))
-        rows.append(words_of(words, part, names))
+        if words[:2] == ["put", "next"]:
+            rows += [("NEXT_HIGH", int(words[2]) >> 32), ("NEXT_LOW", int(words[2]) & 0xFFFFFFFF)]
+        else:
+            rows.append(words_of(words, part, names))
     return rows
 
 
@@ -441,13 +500,15 @@ def table():
     for case, calls in cases():
         rows += rows_of(case, calls, names)
     consts = "".join("const %s: u32 = 0x%x;\n\n" % item for item in names.items())
-    words = "".join("    %s,\n    %d,\n" % row for row in rows)
-    print(TABLE % {"consts": consts, "count": len(rows), "twice": 2 * len(rows), "words": words}, end="")
+    words = ["    %s,\n    %d,\n" % row for row in rows]
+    half = len(rows) // 2
+    sizes = {"count": len(rows), "twice": 2 * len(rows), "half": 2 * half, "rest": 2 * (len(rows) - half)}
+    print(TABLE % {"consts": consts, "first": "".join(words[:half]), "second": "".join(words[half:]), **sizes}, end="")
 
 
 TABLE = """\
-// The calls of all cases, two numbers each: what is called, and a stamp, a cycle or a value. Pins are an entry; a place of the record is a
-// value put there; CASE is the next case, a line of cases.txt, whose record starts fresh with the bench card; PART is whose places and ledger those behind it are,
+// The calls of all cases, two numbers each: what is called, and a stamp, a cycle or a value. Pins are an entry, and MR4 with a value is a temperature; a place of
+// the record is a value put there; CASE is the next case, a line of cases.txt, whose record starts fresh with the bench card; PART is whose places and ledger those behind it are,
 // the first part's before it.
 ghost use Prim.Native.Nat.{_<_};
 use crate::places::*;
@@ -460,16 +521,26 @@ pub const MOVE: u32 = 0x2000002;
 
 pub const PART: u32 = 0x2000003;
 
-// Pins: a command with its bank, or with MA and OP in hexadecimal, and of two parts with its part; a move of clock-enable.
+pub const MR4: u32 = 0x2000100;
+
+// Pins: a command with its bank, or with MA and OP in hexadecimal, and of two parts with its part; a move of clock-enable. A temperature: with its value in
+// hexadecimal.
 %(consts)spub const COUNT: usize = %(count)d;
 
-const WORDS: [u32; %(twice)d] = [
-%(words)s];
+// In two halves: one constant may not be so long.
+const FIRST: [u32; %(half)d] = [
+%(first)s];
+
+const SECOND: [u32; %(rest)d] = [
+%(second)s];
 
 fn word(i: usize) -> u32
     requires { ⌜ i < %(twice)d ⌝ }
 {
-    WORDS[i]
+    if i < %(half)d {
+        return FIRST[i];
+    }
+    SECOND[i - %(half)d]
 }
 
 pub fn what_at(i: usize) -> u32

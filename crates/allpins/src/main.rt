@@ -102,6 +102,7 @@ fn place(whose: Whose) -> u64 {
         Whose::First => 1,
         Whose::Second => 2,
         Whose::Neither => 3,
+        Whose::Both => 4,
     }
 }
 

@@ -11,10 +11,9 @@ use borrow.Author.Tests.{lt-ltb, le-ltb}
 use Rattle.rules.specs.Lists.{all}
 use Rattle.rules.specs.Whose.{parts}
 use Rattle.rules.specs.Folds.{orElse, firstOf}
-use Rattle.rules.specs.Account.{earlier, earliest}
-use Rattle.rules.specs.Clock.{beatOf}
+use Rattle.rules.specs.Account.{Beat, earlier, earliest}
 use Rattle.rules.specs.Checks.{Refusal, refusal, unless, named}
-use Rattle.rules.specs.Lent.{Lent, notBehind, Effect, entered, failingOf, failingTo, failingsTo, ledgerGood, moveRefusal, enterRefusal}
+use Rattle.rules.specs.Lent.{Lent, beatOf, notBehind, Effect, entered, failingOf, failingTo, failingsTo, ledgerGood, moveRefusal, enterRefusal}
 use Rattle.rules.proofs.Tests.{le-cases, some-none}
 use Rattle.rules.proofs.Decided.{or-none}
 use Rattle.bank.specs.Both.{placeOf, comesBefore, soonerOf, toldOf}
@@ -113,6 +112,9 @@ module _ (t : ℕ) (a b : ℕ → Bool) (c : ℕ → Option (ℕ × ℕ)) (below
   moved-over false = told-over t a b c (λ p. none) below (λ p y e. absurd (some-none e)) false
 
 module _ (l : Lent) (t : ℕ) where
+  abbrev beat : Beat
+  beat = beatOf (l .card) (l .pace)
+
   abbrev good : ℕ → Bool
   good p = ledgerGood (l .card) (l .share p .ledger)
 
@@ -121,21 +123,21 @@ module _ (l : Lent) (t : ℕ) where
 
   -- at an entry
   pub told-both : (x : ℕ → Effect) →
-      toldOf (l .card .paired) (enterRefusal (x 0) (l .card) (l .share 0 .ledger) t) (enterRefusal (x 1) (l .card) (l .share 1 .ledger) t)
+      toldOf (l .card .paired) (enterRefusal (x 0) (l .card) (l .pace) (l .share 0 .ledger) t) (enterRefusal (x 1) (l .card) (l .pace) (l .share 1 .ledger) t)
       ≡ firstOf (
       unless (all (λ p. ledgerGood (l .card) (l .share p .ledger)) (parts (l .card))) 13 ∷
       unless (notBehind l t) 5 ∷
       named 11 (failingsTo l t) ∷
-      named 11 (firstOf (map (λ p. failingOf (beatOf (l .card)) (entered (x p) (beatOf (l .card)) (l .share p .ledger) t)) (parts (l .card)))) ∷ []
+      named 11 (firstOf (map (λ p. failingOf (beatOf (l .card) (l .pace)) (entered (x p) (beatOf (l .card) (l .pace)) (l .share p .ledger) t)) (parts (l .card)))) ∷ []
       )
   unfolding enterRefusal notBehind failingsTo parts
   told-both x =
-      told-over t good from (λ p. failingTo (beatOf (l .card)) (l .share p .ledger) t) (λ p. failingOf (beatOf (l .card)) (entered (x p) (beatOf (l .card)) (l .share p .ledger) t))
-      (λ p. below-cycle (beatOf (l .card)) (l .share p .ledger) t) (λ p. here-cycle (x p) (beatOf (l .card)) (l .share p .ledger) t) (l .card .paired)
+      told-over t good from (λ p. failingTo beat (l .share p .ledger) t) (λ p. failingOf beat (entered (x p) beat (l .share p .ledger) t))
+      (λ p. below-cycle beat (l .share p .ledger) t) (λ p. here-cycle (x p) beat (l .share p .ledger) t) (l .card .paired)
 
   -- in idle time up to t and through it
   pub told-moved :
-      toldOf (l .card .paired) (moveRefusal (l .card) (l .share 0 .ledger) t) (moveRefusal (l .card) (l .share 1 .ledger) t)
+      toldOf (l .card .paired) (moveRefusal (l .card) (l .pace) (l .share 0 .ledger) t) (moveRefusal (l .card) (l .pace) (l .share 1 .ledger) t)
       ≡ firstOf (
       unless (all (λ p. ledgerGood (l .card) (l .share p .ledger)) (parts (l .card))) 13 ∷
       unless (notBehind l t) 5 ∷
@@ -143,4 +145,4 @@ module _ (l : Lent) (t : ℕ) where
       )
   unfolding moveRefusal notBehind failingsTo parts
   told-moved =
-      moved-over (suc t) good from (λ p. failingTo (beatOf (l .card)) (l .share p .ledger) (suc t)) (λ p. below-cycle (beatOf (l .card)) (l .share p .ledger) (suc t)) (l .card .paired)
+      moved-over (suc t) good from (λ p. failingTo beat (l .share p .ledger) (suc t)) (λ p. below-cycle beat (l .share p .ledger) (suc t)) (l .card .paired)

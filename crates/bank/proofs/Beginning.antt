@@ -30,7 +30,7 @@ use Rattle.rules.specs.Lent as lent
 use Rattle.card.specs.Values.{cardOf}
 use Rattle.card.specs.declared.Card.{Card}
 use Rattle.pins.specs.Values.{levelOf}
-use Rattle.ledger.specs.Values.{ledgerOf}
+use Rattle.ledger.specs.Values.{ledgerOf, paceOf, paceIn}
 use Rattle.bank.specs.Values.{
   kept,
   once,
@@ -90,8 +90,8 @@ fresh-share card = λ i. record {
 }
 
 pub fresh-lent : (card : Card) → lentOf (freshOf card) ≡ lent.fresh (cardOf card)
-unfolding lentOf lent.fresh lastOf freshOf never
-fresh-lent card = λ i. record { card = cardOf card; last = lastOf never; share = λ p. each-share p i }
+unfolding lentOf lent.fresh lastOf paceOf paceIn freshOf never
+fresh-lent card = λ i. record { card = cardOf card; last = lastOf never; pace = lent.startPace (cardOf card); share = λ p. each-share p i }
   where
     each-share : (p : ℕ) → shareIn (freshOf card) p ≡ lent.freshShare (cardOf card)
     each-share p = unfold shareIn freshOf in go (ltb p 2) (eqb p 0)

@@ -10,7 +10,7 @@ use Rattle.rules.specs.Bits.{on}
 use Rattle.rules.specs.Card.{Card}
 use Rattle.rules.specs.Commands.{Command, bankOf, carries, bare}
 use Rattle.rules.specs.Whose.{Whose, isOf, whose}
-use Rattle.rules.specs.Levels.{Level, Move, Read, plain, moved, asleep, barred, clash, readPins, seen, selected, readPair, readAs}
+use Rattle.rules.specs.Levels.{Level, Move, Read, plain, moved, asleep, barred, clash, sensed, readPins, seen, selected, readPair, readAs}
 use Rattle.rules.specs.Past.{registerAfter}
 use Rattle.rules.specs.Delays.{
   Ask,
@@ -34,19 +34,20 @@ use Rattle.rules.specs.Delays.{
   lastPowerExit,
   lastSelfExit,
 }
-use Rattle.rules.specs.Entries.{Entry, commandOf, recordedAs, whoseOf}
+use Rattle.rules.specs.Entries.{Body, pins, mr4, Entry, readBody, read, whoseBody, whoseOf, commandOf, recordedAs}
 use Rattle.rules.specs.Lent as lent
-use Rattle.rules.specs.Lent.{lentGood, hasPart, aboveLast, commandIn, moveIn, ledgerWith, shareAfter, shareWith, lentAfter}
+use Rattle.rules.specs.Lent.{lentGood, hasPart, aboveLast, commandIn, moveIn, ledgerWith, paceWith, shareAfter, shareWith, lentAfter}
 use Rattle.rules.specs.Pins.{decode, good, wrongBits, reserved}
-use Rattle.rules.proofs.Filtered.{own-is-part}
+use Rattle.rules.proofs.Filtered.{mr4-nop, own-is-part}
 use Rattle.rules.proofs.Sound.{SoundShare, sound}
 use Rattle.rules.proofs.Writable.{bounded}
 use Rattle.rules.proofs.ReadWrite.{read-fits}
 use Rattle.rules.proofs.Waking.{read-decoded}
 use Rattle.card.specs.Values.{cardOf}
 use Rattle.pins.proofs.Rounds.{counter-on}
-use Rattle.ledger.specs.Values.{ledgerOf}
+use Rattle.ledger.specs.Values.{ledgerOf, paceOf}
 use Rattle.ledger.specs.declared.Ledger.{Ledger}
+use Rattle.ledger.specs.declared.Pace.{Pace}
 use Rattle.bank.specs.Values.{preOf, preaOf, asked, lastOf, shareOf, shareAt, shareIn, lentOf}
 use Rattle.bank.specs.After.{ShareArgs, AfterArgs, ShareChanged, Changed, onceAt, shareBehind, shareTaken, afterCommand, banksAfter, recordAfter, ledgerIn}
 use Rattle.bank.specs.After as code
@@ -58,7 +59,7 @@ use Rattle.bank.proofs.Places.{opened-after}
 use Rattle.bank.proofs.Shares.{share-in, is-low, high-none, first-is, second-is}
 use Rattle.bank.proofs.Asked.{remembers}
 
--- ---- what is read off pins is recorded with no bank above 7
+-- ---- what is read off pins, or of a temperature, is recorded with no bank above 7
 decoded-low : (p : ℕ) (c : Command) → decode p ≡ good c → bankOf c ≤ 7
 unfolding bankOf
 decoded-low p c e = let (w, s) = read-fits p c e in bounded c w s .0 .bank
@@ -72,6 +73,7 @@ read-low (moved m) h = unfold bankOf carries bare in omega arith
 read-low asleep h = unfold bankOf carries bare in omega arith
 read-low barred h = unfold bankOf carries bare in omega arith
 read-low clash h = unfold bankOf carries bare in omega arith
+read-low (sensed v) h = unfold bankOf carries bare in omega arith
 
 seen-low : (p : ℕ) → bankOf (recordedAs (plain (decode p))) ≤ 7
 seen-low p = read-low (plain (decode p)) (λ c e. decoded-low p c (let z : decode p ≡ good c = cc in z))
@@ -92,6 +94,14 @@ recorded-bank false true l p = unfold readPair in go (on p 21 && eqb (p / 2 ^ 23
     go : (x : Bool) → bankOf (recordedAs (cond x (selected (on p 20) (on p 22) p) (plain wrongBits))) ≤ 7
     go true = selected-low (on p 20) (on p 22) p
     go false = unfold recordedAs commandOf bankOf carries bare in omega arith
+
+pub entry-bank : (card : Card) (l : Level) (e : Entry) → bankOf (recordedAs (read card l e)) ≤ 7
+unfolding read
+entry-bank card l e = go (e .body)
+  where
+    go : (b : Body) → bankOf (recordedAs (readBody card l b)) ≤ 7
+    go (pins p) = unfold readBody in recorded-bank (card .sleeps) (card .paired) l p
+    go (mr4 v) = unfold readBody in rw (mr4-nop (card .sleeps) (card .paired) l v) (unfold bankOf carries bare in omega arith)
 
 -- ---- of a share
 module _ (last : Option ℕ) (s : Share) (c : Command) (v : Move) (t : ℕ) (g : Ledger) (w : ShareWhole s) (a : ShareArgs last s t c) where
@@ -148,32 +158,32 @@ pub share-changed : (own : Bool) (s : Share) (c : Command) (v : Move) (t : ℕ) 
 share-changed own s c v t g w r e = record { is = e; lent = λ last a. ap shareOf e ∙ share-taken own s c v t g w last a }
 
 -- ---- of the record
-module _ (r : Record) (w : Whose) (c : Command) (v : Move) (t : ℕ) (g : Ledgers) (f h : Share)
+module _ (r : Record) (w : Whose) (c : Command) (v : Move) (t : ℕ) (g : Ledgers) (z : Pace) (f h : Share)
     (a : ShareChanged (isOf 0 w) (r .first) t c v (g .first) f) (b : ShareChanged (isOf 1 w) (r .second) t c v (g .second) h) where
   abbrev next : Record
-  next = record { card = r .card; last = onceAt t; first = f; second = h }
+  next = record { card = r .card; last = onceAt t; pace = z; first = f; second = h }
 
-  next-is : next ≡ recordAfter r w c v t g
+  next-is : next ≡ recordAfter r w c v t g z
   unfolding recordAfter
-  next-is = λ i. record { card = r .card; last = onceAt t; first = a .is i; second = b .is i }
+  next-is = λ i. record { card = r .card; last = onceAt t; pace = z; first = a .is i; second = b .is i }
 
-  next-lent : ((p : ℕ) → isOf p w ≡ true → AfterArgs r p t c) → lentOf next ≡ afterCommand (lentOf r) w c v t (ledgerIn g)
+  next-lent : ((p : ℕ) → isOf p w ≡ true → AfterArgs r p t c) → lentOf next ≡ afterCommand (lentOf r) w c v t (ledgerIn g) (paceOf z)
   unfolding lentOf afterCommand lastOf
-  next-lent args = λ i. record { card = cardOf (r .card); last = some t; share = λ p. each-share p i }
+  next-lent args = λ i. record { card = cardOf (r .card); last = some t; pace = paceOf z; share = λ p. each-share p i }
     where
       each-share : (p : ℕ) → shareIn next p ≡ cond (ltb p 2) (shareBehind (isOf p w) c v t (ledgerIn g p) (shareIn r p)) (shareIn r p)
       each-share zero = unfold shareIn ledgerIn in a .lent (lastOf (r .last)) (args 0)
       each-share (suc zero) = unfold shareIn ledgerIn in b .lent (lastOf (r .last)) (args 1)
       each-share (suc (suc p)) = unfold shareIn in rw (le-ltb (suc (suc p)) 2 (omega arith))
 
-  pub changed : (s : Record) → s ≡ next → Changed r t w c v g s
+  pub changed : (s : Record) → s ≡ next → Changed r t w c v g z s
   changed s e = record { is = e ∙ next-is; lent = λ args. ap lentOf e ∙ next-lent args }
 
-module _ (r : Record) (w : Whose) (c : Command) (v : Move) (t : ℕ) (g : Ledgers) (arrays : Whole r) (args : (p : ℕ) → isOf p w ≡ true → AfterArgs r p t c) where
-  pub record-after : lentOf (recordAfter r w c v t g) ≡ afterCommand (lentOf r) w c v t (ledgerIn g)
+module _ (r : Record) (w : Whose) (c : Command) (v : Move) (t : ℕ) (g : Ledgers) (z : Pace) (arrays : Whole r) (args : (p : ℕ) → isOf p w ≡ true → AfterArgs r p t c) where
+  pub record-after : lentOf (recordAfter r w c v t g z) ≡ afterCommand (lentOf r) w c v t (ledgerIn g) (paceOf z)
   unfolding recordAfter
   record-after =
-      next-lent r w c v t g (shareTaken (isOf 0 w) (r .first) c v t (g .first)) (shareTaken (isOf 1 w) (r .second) c v t (g .second))
+      next-lent r w c v t g z (shareTaken (isOf 0 w) (r .first) c v t (g .first)) (shareTaken (isOf 1 w) (r .second) c v t (g .second))
       (share-changed (isOf 0 w) (r .first) c v t (g .first) (arrays .first) _ refl)
       (share-changed (isOf 1 w) (r .second) c v t (g .second) (arrays .second) _ refl) args
 
@@ -190,15 +200,19 @@ good-args r e c whole rising bank p own =
 -- a part that is not there
 second-not : (card : Card) (e : Entry) → card .paired ≡ false → isOf 1 (whoseOf card e) ≡ false
 unfolding whoseOf
-second-not card e n = rw n (unfold whose isOf in refl)
+second-not card e n = rw n (go (e .body))
+  where
+    go : (b : Body) → isOf 1 (whoseBody false b) ≡ false
+    go (pins p) = unfold whoseBody whose isOf in refl
+    go (mr4 v) = unfold whoseBody isOf in refl
 
 stays-behind : (c : Command) (v : Move) (t : ℕ) (s : lent.Share) (own : Bool) (k : lent.Ledger) → own ≡ false → k ≡ s .ledger → s ≡ shareBehind own c v t k s
 unfolding shareBehind lent.withLedger
 stays-behind c v t s own k o h = rw (o, h)
 
--- with these ledgers it is the rules' record after the entry: nothing is read in `afterCommand`
-module _ (r : Record) (e : Entry) (g : Ledgers) (first : ledgerOf (g .first) ≡ ledgerWith (lentOf r) e 0)
-    (second : ledgerOf (g .second) ≡ cond (r .card .paired) (ledgerWith (lentOf r) e 1) (ledgerOf (r .second .ledger))) where
+-- with these ledgers and this pace it is the rules' record after the entry: nothing is read in `afterCommand`
+module _ (r : Record) (e : Entry) (g : Ledgers) (z : Pace) (first : ledgerOf (g .first) ≡ ledgerWith (lentOf r) e 0)
+    (second : ledgerOf (g .second) ≡ cond (r .card .paired) (ledgerWith (lentOf r) e 1) (ledgerOf (r .second .ledger))) (spaced : paceOf z ≡ paceWith (lentOf r) e) where
   abbrev w : Whose
   w = whoseOf (lentOf r .card) e
 
@@ -210,9 +224,9 @@ module _ (r : Record) (e : Entry) (g : Ledgers) (first : ledgerOf (g .first) ≡
   alone-second true n h = unfold shareWith shareBehind in ap (behind 1) (sym h)
   alone-second false n h = stays-behind _ _ (e .stamp) (lentOf r .share 1) (isOf 1 w) (ledgerOf (g .second)) (second-not (lentOf r .card) e (unfold lentOf cardOf in n)) (unfold lentOf shareIn shareOf in h)
 
-  pub after-is : lentAfter (lentOf r) e ≡ afterCommand (lentOf r) w (commandIn (lentOf r) e) (moveIn (lentOf r) e) (e .stamp) (ledgerIn g)
+  pub after-is : lentAfter (lentOf r) e ≡ afterCommand (lentOf r) w (commandIn (lentOf r) e) (moveIn (lentOf r) e) (e .stamp) (ledgerIn g) (paceOf z)
   unfolding lentAfter afterCommand
-  after-is = λ i. record { card = lentOf r .card; last = some (e .stamp); share = λ p. each-share p i }
+  after-is = λ i. record { card = lentOf r .card; last = some (e .stamp); pace = sym spaced i; share = λ p. each-share p i }
     where
       each-share : (p : ℕ) → cond (hasPart (lentOf r .card) p) (shareWith (lentOf r) e p) (lentOf r .share p) ≡ cond (ltb p 2) (behind p (ledgerIn g p)) (lentOf r .share p)
       each-share zero = unfold ledgerIn in rw (first-is (lentOf r .card)) (unfold shareWith shareBehind in ap (behind 0) (sym first))

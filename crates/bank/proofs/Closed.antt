@@ -15,7 +15,7 @@ use Rattle.rules.proofs.Filtered.{all-parts}
 use Rattle.rules.proofs.Sound.{ledger-good}
 use Rattle.card.specs.Values.{cardOf}
 use Rattle.ledger.specs.declared.Answer.the-variants.{BadRecord, Earlier}
-use Rattle.ledger.specs.Values.{ledgerOf, refusalOf, unlessRefused}
+use Rattle.ledger.specs.Values.{ledgerOf, paceOf, refusalOf, unlessRefused}
 use Rattle.bank.specs.declared.Ledgers.{Ledgers}
 use Rattle.bank.specs.declared.Paid.{Paid}
 use Rattle.bank.specs.declared.Record.{Record}
@@ -29,7 +29,7 @@ unfolding hasPart
 ledgers-good l e = all-parts (λ p. ledgerGood (l .card) (l .share p .ledger)) (parts (l .card)) (λ p i. ledger-good l e p i)
 
 as-moved : (l : Lent) (end : ℕ) → lentGood l ≡ true → lastBy (l .last) end ≡ true →
-    toldOf (l .card .paired) (moveRefusal (l .card) (l .share 0 .ledger) end) (moveRefusal (l .card) (l .share 1 .ledger) end) ≡ closeRefusal l end
+    toldOf (l .card .paired) (moveRefusal (l .card) (l .pace) (l .share 0 .ledger) end) (moveRefusal (l .card) (l .pace) (l .share 1 .ledger) end) ≡ closeRefusal l end
 unfolding closeRefusal
 as-moved l end e f = told-moved l end ∙ rw (e, f, ledgers-good l e)
 
@@ -54,17 +54,20 @@ module _ (r : Record) (end : ℕ) where
       go false f = refl
 
   told-so : lentGood (lentOf r) ≡ true → (r .last .seen && ltb end (r .last .at)) ≡ false →
-      toldOf (r .card .paired) (moveRefusal (cardOf (r .card)) (ledgerOf (r .first .ledger)) end) (moveRefusal (cardOf (r .card)) (ledgerOf (r .second .ledger)) end)
+      toldOf (r .card .paired) (moveRefusal (cardOf (r .card)) (paceOf (r .pace)) (ledgerOf (r .first .ledger)) end) (moveRefusal (cardOf (r .card)) (paceOf (r .pace)) (ledgerOf (r .second .ledger)) end)
       ≡ closeRefusal (lentOf r) end
   unfolding lentOf shareIn shareOf cardOf
   told-so e f = as-moved (lentOf r) end e (by-end f)
 
   abbrev Moves : (old : Ledgers) → (o : Option Refusal) → Paid → Type 0
-  Moves old o a = LeftBoth o old (movedOn (cardOf (r .card)) (ledgerOf (old .first)) end) (secondOf (r .card .paired) old (movedOn (cardOf (r .card)) (ledgerOf (old .second)) end)) a
+  Moves old o a =
+      LeftBoth o old (movedOn (cardOf (r .card)) (paceOf (r .pace)) (ledgerOf (old .first)) end)
+      (secondOf (r .card .paired) old (movedOn (cardOf (r .card)) (paceOf (r .pace)) (ledgerOf (old .second)) end)) a
 
   pub moved-on : lentGood (lentOf r) ≡ true → (r .last .seen && ltb end (r .last .at)) ≡ false → (old : Ledgers) → old ≡ ledgersIn r → (a : Paid) →
-      PaidBy (r .card .paired) (moveRefusal (cardOf (r .card)) (ledgerOf (old .first)) end) (moveRefusal (cardOf (r .card)) (ledgerOf (old .second)) end)
-      old (movedOn (cardOf (r .card)) (ledgerOf (old .first)) end) (movedOn (cardOf (r .card)) (ledgerOf (old .second)) end) a →
+      PaidBy (r .card .paired) (moveRefusal (cardOf (r .card)) (paceOf (r .pace)) (ledgerOf (old .first)) end)
+      (moveRefusal (cardOf (r .card)) (paceOf (r .pace)) (ledgerOf (old .second)) end)
+      old (movedOn (cardOf (r .card)) (paceOf (r .pace)) (ledgerOf (old .first)) end) (movedOn (cardOf (r .card)) (paceOf (r .pace)) (ledgerOf (old .second)) end) a →
       ClosedAs r end a
   unfolding ledgersIn
   moved-on e f old h a p = subst (λ (o : Option Refusal). Moves (ledgersIn r) o a) (told-so e f) (rw h at p)

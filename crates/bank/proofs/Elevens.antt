@@ -12,8 +12,7 @@ use Rattle.rules.specs.Whose.{parts}
 use Rattle.rules.specs.Levels.{stopped}
 use Rattle.rules.specs.Folds.{orElse, firstOf}
 use Rattle.rules.specs.Account.{Terms, lpddr3, Schedule, Beat, steady, failing, earlier, earliest, idle, firstIdle}
-use Rattle.rules.specs.Clock.{beatOf}
-use Rattle.rules.specs.Lent.{Ledger, Lent, numberOf, Effect, ledgerTo, refreshedAt, atLevel, entered, failingOf, failingTo, failingsTo}
+use Rattle.rules.specs.Lent.{Ledger, Lent, beatOf, numberOf, Effect, ledgerTo, refreshedAt, sensedAt, atLevel, entered, failingOf, failingTo, failingsTo}
 use Rattle.rules.proofs.Tests.{some-none}
 
 abbrev pub Below : ℕ → Option (ℕ × ℕ) → Type 0
@@ -56,8 +55,12 @@ below-cycle b g t x e = go (stopped (g .level)) e
 
 pub here-cycle : (x : Effect) (b : Beat) (g : Ledger) (t : ℕ) → There t (failingOf b (entered x b g t))
 unfolding failingOf entered atLevel
-here-cycle x b g t y e = failing-cycle lpddr3 _ _ _ _ _ y e ∙ stays (x .counted)
+here-cycle x b g t y e = failing-cycle lpddr3 _ _ _ _ _ y e ∙ sensed-stays (x .sensed) (refreshedAt (x .counted) (ledgerTo b g t)) ∙ stays (x .counted)
   where
+    sensed-stays : (c : Bool) (h : Ledger) → sensedAt c h .at ≡ h .at
+    sensed-stays true h = unfold sensedAt in refl
+    sensed-stays false h = unfold sensedAt in refl
+
     stays : (c : Bool) → refreshedAt c (ledgerTo b g t) .at ≡ t
     stays true = unfold refreshedAt ledgerTo in refl
     stays false = unfold refreshedAt ledgerTo in refl
@@ -90,10 +93,13 @@ module _ (t : ℕ) (f : ℕ → Option (ℕ × ℕ)) where
   any-there h (p ∷ ps) x e = first-there t (f p) (firstOf (map f ps)) (h p) (any-there h ps) x e
 
 module _ (l : Lent) (t : ℕ) where
+  abbrev beat : Beat
+  beat = beatOf (l .card) (l .pace)
+
   pub below-any : Below t (failingsTo l t)
   unfolding failingsTo
-  below-any = earliest-below t (λ p. failingTo (beatOf (l .card)) (l .share p .ledger) t) (λ p. below-cycle (beatOf (l .card)) (l .share p .ledger) t) (parts (l .card))
+  below-any = earliest-below t (λ p. failingTo beat (l .share p .ledger) t) (λ p. below-cycle beat (l .share p .ledger) t) (parts (l .card))
 
-  pub here-any : (x : ℕ → Effect) → There t (firstOf (map (λ p. failingOf (beatOf (l .card)) (entered (x p) (beatOf (l .card)) (l .share p .ledger) t)) (parts (l .card))))
-  here-any x =
-      any-there t (λ p. failingOf (beatOf (l .card)) (entered (x p) (beatOf (l .card)) (l .share p .ledger) t)) (λ p. here-cycle (x p) (beatOf (l .card)) (l .share p .ledger) t) (parts (l .card))
+  pub here-any : (x : ℕ → Effect) →
+      There t (firstOf (map (λ p. failingOf (beatOf (l .card) (l .pace)) (entered (x p) (beatOf (l .card) (l .pace)) (l .share p .ledger) t)) (parts (l .card))))
+  here-any x = any-there t (λ p. failingOf beat (entered (x p) beat (l .share p .ledger) t)) (λ p. here-cycle (x p) beat (l .share p .ledger) t) (parts (l .card))

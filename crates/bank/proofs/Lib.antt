@@ -1,4 +1,4 @@
--- Laws of the record, of 13, of what an entry changes, of both parts' ledgers, of the end, and of the promises.
+-- Laws of the record, of 13, of what an entry changes, a temperature among them, of both parts' ledgers, of the end, and of the promises.
 pub mod Stored
 pub mod Sizes
 pub mod Places
@@ -8,6 +8,7 @@ pub mod Remembered
 pub mod Asked
 pub mod Shares
 pub mod Changed
+pub mod Sensed
 pub mod Elevens
 pub mod Accounts
 pub mod Sooner

@@ -1,23 +1,24 @@
 -- The parts of a record: their shares, and what the other part's bus tells.
 use Prim.Native.Nat.{ℕ, zero, suc, _-_, _≤_, _<_}
 use mathlib.Core.Path.{_≡_, refl, ap, sym, _∙_}
-use mathlib.Core.Bool.{Bool, true, false, cond}
+use mathlib.Core.Bool.{Bool, true, false, cond, not, _&&_}
 use mathlib.Core.List.{[], _∷_}
 use mathlib.Core.Option.{none}
 use native.Mathlib.Omega.{arith}
-use borrow.Author.Tests.{lt-ltb}
+use lib.Dec.{eqb}
+use borrow.Author.Tests.{lt-ltb, eqb-true, eqb-false}
 use Rattle.rules.specs.Lists.{Every, isOneOf}
 use Rattle.rules.specs.Card.{Card}
 use Rattle.rules.specs.Whose.{isOf, partOf, other, parts}
 use Rattle.rules.specs.Delays.{Ask, lastRD, lastWR, lastRDorMRR, Question, means, latestOf, laggingOf}
 use Rattle.rules.specs.Lent as lent
 use Rattle.rules.specs.Lent.{Lent, hasPart, lookIn, answersIn}
-use Rattle.rules.proofs.Filtered.{is-part, IsPart, every-at}
+use Rattle.rules.proofs.Filtered.{IsPart, every-at}
 use Rattle.rules.proofs.Bus.{SameBus}
 use Rattle.card.specs.Values.{cardOf}
 use Rattle.pins.specs.Values.{whoseOf}
 use Rattle.pins.specs.declared.Whose.{Whose}
-use Rattle.pins.specs.declared.Whose.the-variants.{Sole, First, Second, Neither}
+use Rattle.pins.specs.declared.Whose.the-variants.{Sole, First, Second, Neither, Both}
 use Rattle.bank.specs.Values.{kept, once, noted, asked, shareOf, shareAt, shareIn, lentOf, heard, busLook, never, neverNoted, idleBus, theirsOf}
 use Rattle.bank.specs.declared.Share.{Share}
 use Rattle.bank.specs.declared.Record.{Record}
@@ -28,34 +29,40 @@ part-low Sole = omega arith
 part-low First = omega arith
 part-low Second = omega arith
 part-low Neither = omega arith
+part-low Both = omega arith
 
 pub share-in : (r : Record) (p : ℕ) → p < 2 → lentOf r .share p ≡ shareOf (shareAt r p)
 unfolding lentOf shareIn
 share-in r p h = rw (lt-ltb p 2 h)
 
-first-part : (w : Whose) → isOf 1 (whoseOf w) ≡ false → partOf (whoseOf w) ≡ 0
+-- the second part judges what is its own and not the first one's too
+pub second-judges : (w : Whose) → (isOf 1 (whoseOf w) && not (isOf 0 (whoseOf w))) ≡ eqb (partOf (whoseOf w)) 1
 unfolding isOf partOf whoseOf
-first-part Sole e = refl
-first-part First e = refl
-first-part Second e = let z : _≡_ {A = ℕ} 0 1 = cc in absurd (omega arith)
-first-part Neither e = refl
+second-judges Sole = refl
+second-judges First = refl
+second-judges Second = refl
+second-judges Neither = refl
+second-judges Both = refl
+
+first-part : (w : Whose) → eqb (partOf (whoseOf w)) 1 ≡ false → partOf (whoseOf w) ≡ 0
+first-part w e = omega (arith, part-low w, eqb-false (partOf (whoseOf w)) 1 e)
 
 module _ (r : Record) (w : Whose) where
-  pub own-second : isOf 1 (whoseOf w) ≡ true → r .second ≡ shareAt r (partOf (whoseOf w))
-  own-second e = rw (is-part 1 (whoseOf w) e)
+  pub own-second : eqb (partOf (whoseOf w)) 1 ≡ true → r .second ≡ shareAt r (partOf (whoseOf w))
+  own-second e = rw (eqb-true (partOf (whoseOf w)) 1 e)
 
-  pub own-first : isOf 1 (whoseOf w) ≡ false → r .first ≡ shareAt r (partOf (whoseOf w))
+  pub own-first : eqb (partOf (whoseOf w)) 1 ≡ false → r .first ≡ shareAt r (partOf (whoseOf w))
   own-first e = rw (first-part w e)
 
   pub theirs-none : r .card .paired ≡ false → idleBus ≡ theirsOf r (partOf (whoseOf w))
   unfolding theirsOf
   theirs-none n = rw n
 
-  pub theirs-first : r .card .paired ≡ true → isOf 1 (whoseOf w) ≡ true → r .first .bus ≡ theirsOf r (partOf (whoseOf w))
+  pub theirs-first : r .card .paired ≡ true → eqb (partOf (whoseOf w)) 1 ≡ true → r .first .bus ≡ theirsOf r (partOf (whoseOf w))
   unfolding theirsOf other
-  theirs-first n e = rw (n, is-part 1 (whoseOf w) e)
+  theirs-first n e = rw (n, eqb-true (partOf (whoseOf w)) 1 e)
 
-  pub theirs-second : r .card .paired ≡ true → isOf 1 (whoseOf w) ≡ false → r .second .bus ≡ theirsOf r (partOf (whoseOf w))
+  pub theirs-second : r .card .paired ≡ true → eqb (partOf (whoseOf w)) 1 ≡ false → r .second .bus ≡ theirsOf r (partOf (whoseOf w))
   unfolding theirsOf other
   theirs-second n e = rw (n, first-part w e)
 

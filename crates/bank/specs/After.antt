@@ -14,7 +14,8 @@ use Rattle.rules.specs.Past.{registerAfter, bankAt}
 use Rattle.rules.specs.Lent as lent
 use Rattle.pins.specs.Counter.{counterOn}
 use Rattle.ledger.specs.declared.Ledger.{Ledger}
-use Rattle.ledger.specs.Values.{ledgerOf}
+use Rattle.ledger.specs.declared.Pace.{Pace}
+use Rattle.ledger.specs.Values.{ledgerOf, paceOf}
 use Rattle.bank.specs.Values.{lastOf, shareOf, shareAt, lentOf}
 use Rattle.bank.specs.declared.Once.{Once}
 use Rattle.bank.specs.declared.Noted.{Noted}
@@ -29,12 +30,12 @@ use Rattle.bank.specs.declared.Share.{Share}
 use Rattle.bank.specs.declared.Ledgers.{Ledgers}
 use Rattle.bank.specs.declared.Record.{Record}
 
--- the lent record after an entry of this part that was taken, with this command and move, and with these ledgers
+-- the lent record after an entry of this part that was taken, with this command and move, with these ledgers and this pace
 unfoldable pub shareBehind : (own : Bool) → rules.Command → Move → (stamp : ℕ) → lent.Ledger → lent.Share → lent.Share
 shareBehind own c v t g s = cond own (lent.shareAfter c v t g s) (lent.withLedger g s)
 
-unfoldable pub afterCommand : lent.Lent → Whose → rules.Command → Move → (stamp : ℕ) → (ℕ → lent.Ledger) → lent.Lent
-afterCommand l w c v t g = record { card = l .card; last = some t; share = λ p. cond (ltb p 2) (shareBehind (isOf p w) c v t (g p) (l .share p)) (l .share p) }
+unfoldable pub afterCommand : lent.Lent → Whose → rules.Command → Move → (stamp : ℕ) → (ℕ → lent.Ledger) → lent.Pace → lent.Lent
+afterCommand l w c v t g z = record { card = l .card; last = some t; pace = z; share = λ p. cond (ltb p 2) (shareBehind (isOf p w) c v t (g p) (l .share p)) (l .share p) }
 
 -- what a sound record and a rising stamp give of a part whose own entry it is; a command that was decoded has no bank above 7
 pub record ShareArgs (last : Option ℕ) (s : Share) (stamp : ℕ) (c : rules.Command) : Type 0 where
@@ -201,10 +202,11 @@ pub record ShareChanged (own : Bool) (s : Share) (stamp : ℕ) (c : rules.Comman
   pub is : r ≡ shareTaken own s c v stamp g
   pub lent : (last : Option ℕ) → (own ≡ true → ShareArgs last s stamp c) → shareOf r ≡ shareBehind own c v stamp (ledgerOf g) (shareOf s)
 
-unfoldable pub recordAfter : Record → Whose → rules.Command → Move → (stamp : ℕ) → Ledgers → Record
-recordAfter r w c v t g = record {
+unfoldable pub recordAfter : Record → Whose → rules.Command → Move → (stamp : ℕ) → Ledgers → Pace → Record
+recordAfter r w c v t g z = record {
   card = r .card;
   last = onceAt t;
+  pace = z;
   first = shareTaken (isOf 0 w) (r .first) c v t (g .first);
   second = shareTaken (isOf 1 w) (r .second) c v t (g .second);
 }
@@ -214,6 +216,6 @@ unfoldable pub ledgerIn : Ledgers → ℕ → lent.Ledger
 ledgerIn g p = ledgerOf (cond (eqb p 0) (g .first) (g .second))
 
 -- the record to the bit, and what it then is to the rules
-pub record Changed (r : Record) (stamp : ℕ) (w : Whose) (c : rules.Command) (v : Move) (g : Ledgers) (s : Record) : Type 0 where
-  pub is : s ≡ recordAfter r w c v stamp g
-  pub lent : ((p : ℕ) → isOf p w ≡ true → AfterArgs r p stamp c) → lentOf s ≡ afterCommand (lentOf r) w c v stamp (ledgerIn g)
+pub record Changed (r : Record) (stamp : ℕ) (w : Whose) (c : rules.Command) (v : Move) (g : Ledgers) (z : Pace) (s : Record) : Type 0 where
+  pub is : s ≡ recordAfter r w c v stamp g z
+  pub lent : ((p : ℕ) → isOf p w ≡ true → AfterArgs r p stamp c) → lentOf s ≡ afterCommand (lentOf r) w c v stamp (ledgerIn g) (paceOf z)

@@ -5,15 +5,14 @@ use mathlib.Core.Bool.{Bool, true, false, cond}
 use mathlib.Core.Option.{Option, none, some}
 use lib.Dec.{ltb, eqb}
 use Rattle.rules.specs.Whose.{Whose, isOf}
-use Rattle.rules.specs.Levels.{Level}
-use Rattle.rules.specs.Clock.{beatOf}
 use Rattle.rules.specs.Checks.{Refusal}
 use Rattle.rules.specs.Lent as lent
-use Rattle.rules.specs.Lent.{noEffect, enterRefusal, entered, movedOn, closeRefusal}
+use Rattle.rules.specs.Lent.{beatOf, noEffect, enterRefusal, entered, movedOn, closeRefusal}
 use Rattle.card.specs.Values.{cardOf}
 use Rattle.card.specs.declared.Card.{Card}
-use Rattle.ledger.specs.Values.{ledgerOf, refusalOf, unlessRefused, Left}
+use Rattle.ledger.specs.Values.{ledgerOf, paceOf, refusalOf, unlessRefused, Left}
 use Rattle.ledger.specs.declared.Ledger.{Ledger}
+use Rattle.ledger.specs.declared.Pace.{Pace}
 use Rattle.ledger.specs.declared.Answer.{Answer}
 use Rattle.ledger.specs.declared.After.{After}
 use Rattle.bank.specs.declared.Ledgers.{Ledgers}
@@ -69,29 +68,31 @@ pub record JoinedAs (old : Ledgers) (a b : After) (r : Paid) : Type 0 where
   pub ledgers : r .ledgers ≡ unlessRefused (soonerOf (refusalOf (a .answer)) (refusalOf (b .answer))) old (ledgersAs (a .ledger) (b .ledger))
 
 -- ---- an entry's own cycle: an entry does nothing to a part whose own it is not
-unfoldable pub effectFor : (own : Bool) → lent.Effect → Level → lent.Effect
-effectFor own x v = cond own x (noEffect v)
+unfoldable pub effectFor : (own : Bool) → lent.Effect → lent.Effect
+effectFor own x = cond own x noEffect
 
-module _ (own : Bool) (x : lent.Effect) (card : Card) (g : lent.Ledger) (t : ℕ) where
+module _ (own : Bool) (x : lent.Effect) (pace : Pace) (card : Card) (g : lent.Ledger) (t : ℕ) where
   abbrev pub enteredFor : lent.Ledger
-  enteredFor = entered (effectFor own x (g .level)) (beatOf (cardOf card)) g t
+  enteredFor = entered (effectFor own x) (beatOf (cardOf card) (paceOf pace)) g t
 
   abbrev pub refusedFor : Option Refusal
-  refusedFor = enterRefusal (effectFor own x (g .level)) (cardOf card) g t
+  refusedFor = enterRefusal (effectFor own x) (cardOf card) (paceOf pace) g t
 
-abbrev pub EnteredOn : (own : Bool) → Ledger → Card → (stamp : ℕ) → lent.Effect → After → Type 0
-EnteredOn own g card t x r = Left (refusedFor own x card (ledgerOf g) t) (ledgerOf g) (enteredFor own x card (ledgerOf g) t) r
+abbrev pub EnteredOn : (own : Bool) → Ledger → Pace → Card → (stamp : ℕ) → lent.Effect → After → Type 0
+EnteredOn own g pace card t x r = Left (refusedFor own x pace card (ledgerOf g) t) (ledgerOf g) (enteredFor own x pace card (ledgerOf g) t) r
 
-abbrev pub EnteredBoth : Ledgers → Card → Whose → (stamp : ℕ) → lent.Effect → Paid → Type 0
-EnteredBoth gs card w t x r =
+abbrev pub EnteredBoth : Ledgers → Pace → Card → Whose → (stamp : ℕ) → lent.Effect → Paid → Type 0
+EnteredBoth gs pace card w t x r =
     let g = ledgerOf (gs .first) in
     let h = ledgerOf (gs .second) in
-    PaidBy (card .paired) (refusedFor (isOf 0 w) x card g t) (refusedFor (isOf 1 w) x card h t) gs (enteredFor (isOf 0 w) x card g t) (enteredFor (isOf 1 w) x card h t) r
+    PaidBy (card .paired) (refusedFor (isOf 0 w) x pace card g t) (refusedFor (isOf 1 w) x pace card h t) gs (enteredFor (isOf 0 w) x pace card g t)
+    (enteredFor (isOf 1 w) x pace card h t) r
 
 -- ---- the end
 abbrev pub ClosedAs : Record → (end : ℕ) → Paid → Type 0
 ClosedAs rec end r =
     let old = ledgersIn rec in
     let card = cardOf (rec .card) in
-    LeftBoth (closeRefusal (lentOf rec) end) old (movedOn card (ledgerOf (rec .first .ledger)) end)
-    (secondOf (rec .card .paired) old (movedOn card (ledgerOf (rec .second .ledger)) end)) r
+    let pace = paceOf (rec .pace) in
+    LeftBoth (closeRefusal (lentOf rec) end) old (movedOn card pace (ledgerOf (rec .first .ledger)) end)
+    (secondOf (rec .card .paired) old (movedOn card pace (ledgerOf (rec .second .ledger)) end)) r

@@ -34,7 +34,7 @@ use Rattle.rules.specs.Lent as lent
 use Rattle.card.specs.Values.{cardOf}
 use Rattle.card.specs.declared.Card.{Card}
 use Rattle.pins.specs.declared.Level.the-variants.{Awake}
-use Rattle.ledger.specs.Values.{ledgerOf}
+use Rattle.ledger.specs.Values.{ledgerOf, paceOf, paceIn}
 use Rattle.bank.specs.declared.Once.{Once}
 use Rattle.bank.specs.declared.Noted.{Noted}
 use Rattle.bank.specs.declared.Each.{Each}
@@ -127,7 +127,7 @@ unfoldable pub shareIn : Record → ℕ → lent.Share
 shareIn r p = cond (ltb p 2) (shareOf (shareAt r p)) (lent.freshShare (cardOf (r .card)))
 
 unfoldable pub lentOf : Record → lent.Lent
-lentOf r = record { card = cardOf (r .card); last = lastOf (r .last); share = shareIn r }
+lentOf r = record { card = cardOf (r .card); last = lastOf (r .last); pace = paceOf (r .pace); share = shareIn r }
 
 -- what a part's bus answers: the latest RD, WR, and RD or MRR. It is not asked more
 unfoldable pub heard : Bus → Ask → List (Found ℕ)
@@ -205,7 +205,13 @@ freshShare m = record {
 }
 
 unfoldable pub freshOf : Card → Record
-freshOf card = record { card = card; last = never; first = freshShare (card .mr2); second = freshShare (card .mr2) }
+freshOf card = record {
+  card = card;
+  last = never;
+  pace = paceIn (lent.startPace (cardOf card));
+  first = freshShare (card .mr2);
+  second = freshShare (card .mr2);
+}
 
 -- the other part's bus, as part p sees it; nothing was heard of a part that is not there
 unfoldable pub theirsOf : Record → ℕ → Bus

@@ -4,8 +4,8 @@ ghost use mathlib.Core.Option.{some};
 ghost use Rattle.rules.specs.Checks.{refusal};
 ghost use Rattle.rules.specs.Lent.{moveRefusal, movedOn};
 ghost use Rattle.card.specs.Values.{cardOf};
-ghost use Rattle.pins.specs.Values.{levelOf, whoseOf};
-ghost use Rattle.ledger.specs.Values.{ledgerOf, effectOf, refusalOf, isNone};
+ghost use Rattle.pins.specs.Values.{whoseOf};
+ghost use Rattle.ledger.specs.Values.{ledgerOf, paceOf, effectOf, refusalOf, isNone};
 ghost use Rattle.bank.specs.Both.{ledgersIn, paidAs, comesBefore, soonerOf, aloneAs, JoinedAs, effectFor, PaidBy, EnteredOn, EnteredBoth};
 use crate::Ledgers;
 use crate::Paid;
@@ -15,7 +15,8 @@ use ledger::After;
 use ledger::Answer;
 use ledger::Effect;
 use ledger::Ledger;
-use pins::Level;
+use ledger::Pace;
+use pins::Move;
 use pins::Whose;
 
 pub fn ledgers_of(rec: Record) -> Ledgers
@@ -132,47 +133,65 @@ fn alone(stood: Ledgers, first: After) -> Paid
 }
 
 // Moved on to a later cycle. Refused in this order: 13, 5, 11.
-pub fn moved(ledgers: Ledgers, card: Card, to: u32) -> Paid
-    ensures { λ r. ⌜ PaidBy (card .paired) (moveRefusal (cardOf card) (ledgerOf (ledgers .first)) to) (moveRefusal (cardOf card) (ledgerOf (ledgers .second)) to) ledgers (movedOn (cardOf card) (ledgerOf (ledgers .first)) to) (movedOn (cardOf card) (ledgerOf (ledgers .second)) to) r ⌝ }
+pub fn moved(ledgers: Ledgers, pace: Pace, card: Card, to: u32) -> Paid
+    ensures { λ r. ⌜ PaidBy (card .paired) (moveRefusal (cardOf card) (paceOf pace) (ledgerOf (ledgers .first)) to) (moveRefusal (cardOf card) (paceOf pace) (ledgerOf (ledgers .second)) to) ledgers (movedOn (cardOf card) (paceOf pace) (ledgerOf (ledgers .first)) to) (movedOn (cardOf card) (paceOf pace) (ledgerOf (ledgers .second)) to) r ⌝ }
 {
-    let first = ledger::moved(ledgers.first, card, to);
+    let first = ledger::moved(ledgers.first, pace, card, to);
     if !card.paired {
         return alone(ledgers, first);
     }
-    joined(ledgers, first, ledger::moved(ledgers.second, card, to))
+    joined(
+        ledgers,
+        first,
+        ledger::moved(ledgers.second, pace, card, to),
+    )
 }
 
 // On a part whose own entry it is not it does nothing.
-fn effect_on(own: bool, effect: Effect, level: Level) -> Effect
-    ensures { λ r. ⌜ effectOf r ≡ effectFor own (effectOf effect) (levelOf level) ⌝ }
+fn effect_on(own: bool, effect: Effect) -> Effect
+    ensures { λ r. ⌜ effectOf r ≡ effectFor own (effectOf effect) ⌝ }
 {
     if own {
         return effect;
     }
     Effect {
         counted: false,
-        level: level,
+        sensed: false,
+        moved: Move::Stays,
     }
 }
 
-fn entered_on(own: bool, ledger: Ledger, card: Card, stamp: u32, effect: Effect) -> After
-    ensures { λ r. ⌜ EnteredOn own ledger card stamp (effectOf effect) r ⌝ }
+fn entered_on(
+    own: bool,
+    ledger: Ledger,
+    pace: Pace,
+    card: Card,
+    stamp: u32,
+    effect: Effect,
+) -> After
+    ensures { λ r. ⌜ EnteredOn own ledger pace card stamp (effectOf effect) r ⌝ }
 {
-    let level = ledger.level;
-    ledger::entered(ledger, card, stamp, effect_on(own, effect, level))
+    ledger::entered(ledger, pace, card, stamp, effect_on(own, effect))
 }
 
-// Taken through the own cycle of an entry of this part. Refused in this order: 13, 5, 11 below the stamp, 11 at it.
-pub fn entered(ledgers: Ledgers, card: Card, whose: Whose, stamp: u32, effect: Effect) -> Paid
-    ensures { λ r. ⌜ EnteredBoth ledgers card (whoseOf whose) stamp (effectOf effect) r ⌝ }
+// Taken through the own cycle of an entry, of one part or of both. Refused in this order: 13, 5, 11 below the stamp, 11 at it.
+pub fn entered(
+    ledgers: Ledgers,
+    pace: Pace,
+    card: Card,
+    whose: Whose,
+    stamp: u32,
+    effect: Effect,
+) -> Paid
+    ensures { λ r. ⌜ EnteredBoth ledgers pace card (whoseOf whose) stamp (effectOf effect) r ⌝ }
 {
     let of_first = pins::is_first(whose);
     let of_second = pins::is_second(whose);
-    let first = entered_on(of_first, ledgers.first, card, stamp, effect);
+    let first = entered_on(of_first, ledgers.first, pace, card, stamp, effect);
     let paired = card.paired;
     if !paired {
         return alone(ledgers, first);
     }
-    let second = entered_on(of_second, ledgers.second, card, stamp, effect);
+    let second = entered_on(of_second, ledgers.second, pace, card, stamp, effect);
     joined(ledgers, first, second)
 }

@@ -17,5 +17,5 @@ pub fn close(rec: Record, end: u32) -> Paid
     if rec.last.seen & (end < rec.last.at) {
         return both::paid(stood, Answer::Earlier);
     }
-    both::moved(stood, rec.card, end)
+    both::moved(stood, rec.pace, rec.card, end)
 }

@@ -97,6 +97,7 @@ pub fn fresh_record(card: Card) -> Record
     Record {
         card: card,
         last: NEVER,
+        pace: ledger::first_pace(card),
         first: fresh_share(card.mr2),
         second: fresh_share(card.mr2),
     }

@@ -14,6 +14,7 @@ pub use fresh::fresh_record;
 pub use fresh::idle_bus;
 use ledger::Answer;
 use ledger::Ledger;
+use ledger::Pace;
 pub use parts::own;
 pub use parts::theirs;
 pub use sound::good;
@@ -100,10 +101,12 @@ pub struct Share {
     pub ledger: Ledger,
 }
 
-// `last` is the last entry's stamp, of whichever part. Where the card has no tag 25 there is one part, and `second` is not looked at.
+// `last` is the last entry's stamp, of whichever part, and the pace is one for all parts. Where the card has no tag 25 there is one part, and `second` is not
+// looked at.
 pub struct Record {
     pub card: Card,
     pub last: Once,
+    pub pace: Pace,
     pub first: Share,
     pub second: Share,
 }

@@ -18,6 +18,7 @@ use crate::Once;
 use crate::Record;
 use crate::Share;
 use ledger::Ledger;
+use ledger::Pace;
 use pins::Command;
 use pins::Level;
 use pins::Move;
@@ -348,7 +349,8 @@ fn share_taken(
     with_ledger(x, ledger)
 }
 
-// The record after an entry that was taken, of this part, recorded as the command and with this move of clock-enable, with the ledgers then.
+// The record after an entry that was taken, of one part or of both, recorded as the command and with this move of clock-enable, with the ledgers and the pace
+// then.
 pub fn after(
     rec: Record,
     stamp: u32,
@@ -356,8 +358,9 @@ pub fn after(
     command: Command,
     moved: Move,
     ledgers: Ledgers,
+    pace: Pace,
 ) -> Record
-    ensures { λ r. ⌜ Changed rec stamp (whoseOf whose) (commandOf command) (movedOf moved) ledgers r ⌝ }
+    ensures { λ r. ⌜ Changed rec stamp (whoseOf whose) (commandOf command) (movedOf moved) ledgers pace r ⌝ }
 {
     let card = rec.card;
     let first = rec.first;
@@ -367,6 +370,7 @@ pub fn after(
     Record {
         card: card,
         last: once_at(stamp),
+        pace: pace,
         first: share_taken(of_first, first, stamp, command, moved, ledgers.first),
         second: share_taken(of_second, second, stamp, command, moved, ledgers.second),
     }

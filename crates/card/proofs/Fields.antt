@@ -23,8 +23,8 @@ use Rattle.card.specs.declared.Card.{Card}
 use Rattle.card.proofs.Lengths.{is-within}
 
 -- a card's numbers, whether it sleeps or is paired, and its timings by their place
-built : (period mr2 groups trefi gap : ℕ) → (sleeps paired : Bool) → (ℕ → paper.Timing) → paper.Card
-built p m g r x s d c = record {
+built : (period mr2 groups trefi gap raise : ℕ) → (sleeps paired : Bool) → (ℕ → paper.Timing) → paper.Card
+built p m g r x h s d c = record {
   period = p;
   mr2 = m;
   groups = g;
@@ -50,16 +50,17 @@ built p m g r x s d c = record {
   txsr = c 17;
   paired = d;
   gap = x;
+  raise = h;
 }
 
 card-built : (card : Card)
-    → cardOf card ≡ built (card .period) (card .mr2) (card .groups) (card .trefi) (card .gap) (card .sleeps) (card .paired) (timingIn card)
+    → cardOf card ≡ built (card .period) (card .mr2) (card .groups) (card .trefi) (card .gap) (card .raise) (card .sleeps) (card .paired) (timingIn card)
 unfolding cardOf built
 card-built card = refl
 
 fields-built : (fs : List form.Field)
     → form.cardOf fs
-    ≡ built (form.numberAt 1 fs) (form.numberAt 2 fs) (form.numberAt 3 fs) (form.numberAt 4 fs) (form.numberAt 25 fs) (form.has 19 fs) (form.has 25 fs)
+    ≡ built (form.numberAt 1 fs) (form.numberAt 2 fs) (form.numberAt 3 fs) (form.numberAt 4 fs) (form.numberAt 25 fs) (form.numberAt 26 fs) (form.has 19 fs) (form.has 25 fs)
     (λ k. form.timingAt (k + 5) fs)
 unfolding form.cardOf built
 fields-built fs = refl
@@ -74,10 +75,10 @@ place-is : (k : ℕ) → k < 18 → getD places k 0 ≡ k
 unfolding places onward
 place-is k h = eqb-true (getD places k 0) k (at-each (λ j. eqb (getD places j 0) j) 0 18 refl k (omega arith) (omega arith))
 
-same-built : {p q m n g h r s x y : ℕ} {u v a b : Bool} {c d : ℕ → paper.Timing}
-    → p ≡ q → m ≡ n → g ≡ h → r ≡ s → x ≡ y → u ≡ v → a ≡ b → ((k : ℕ) → k < 18 → c k ≡ d k) → built p m g r x u a c ≡ built q n h s y v b d
+same-built : {p q m n g h r s x y e f : ℕ} {u v a b : Bool} {c d : ℕ → paper.Timing}
+    → p ≡ q → m ≡ n → g ≡ h → r ≡ s → x ≡ y → e ≡ f → u ≡ v → a ≡ b → ((k : ℕ) → k < 18 → c k ≡ d k) → built p m g r x e u a c ≡ built q n h s y f v b d
 unfolding built
-same-built a b e f x w z at = λ i. record {
+same-built a b e f x y w z at = λ i. record {
   period = a i;
   mr2 = b i;
   groups = e i;
@@ -103,11 +104,12 @@ same-built a b e f x w z at = λ i. record {
   txsr = at 17 (lit< tt) i;
   paired = z i;
   gap = x i;
+  raise = y i;
 }
 
-at-place : (p m g r x : ℕ) (s d : Bool) (c : ℕ → paper.Timing) (k : ℕ) → k < 18 → getD (allTimings (built p m g r x s d c)) k (c 0) ≡ c k
+at-place : (p m g r x h : ℕ) (s d : Bool) (c : ℕ → paper.Timing) (k : ℕ) → k < 18 → getD (allTimings (built p m g r x h s d c)) k (c 0) ≡ c k
 unfolding allTimings timings sleepTimings built places
-at-place p m g r x s d c k h = List·getD-map c places k 0 ∙ ap c (place-is k h)
+at-place p m g r x h s d c k lt = List·getD-map c places k 0 ∙ ap c (place-is k lt)
 
 -- the card reads as what these fields say, and its columns are whole, as those of every card in the code are
 pub record Holds (card : Card) (fs : List form.Field) : Type 0 where
@@ -118,9 +120,9 @@ pub record Holds (card : Card) (fs : List form.Field) : Type 0 where
 held-timing : (card : Card) (fs : List form.Field) → Holds card fs → (k : ℕ) → k < 18 → timingIn card k ≡ form.timingAt (k + 5) fs
 unfolding cardOf form.cardOf built
 held-timing card fs h k lt =
-    sym (at-place (card .period) (card .mr2) (card .groups) (card .trefi) (card .gap) (card .sleeps) (card .paired) (timingIn card) k lt)
+    sym (at-place (card .period) (card .mr2) (card .groups) (card .trefi) (card .gap) (card .raise) (card .sleeps) (card .paired) (timingIn card) k lt)
     ∙ ap (λ (x : paper.Card). getD (allTimings x) k (x .trcd)) (h .reads)
-    ∙ at-place (form.numberAt 1 fs) (form.numberAt 2 fs) (form.numberAt 3 fs) (form.numberAt 4 fs) (form.numberAt 25 fs) (form.has 19 fs) (form.has 25 fs)
+    ∙ at-place (form.numberAt 1 fs) (form.numberAt 2 fs) (form.numberAt 3 fs) (form.numberAt 4 fs) (form.numberAt 25 fs) (form.numberAt 26 fs) (form.has 19 fs) (form.has 25 fs)
     (λ j. form.timingAt (j + 5) fs) k lt
 
 -- the newest field with a tag is the one that counts
@@ -175,6 +177,7 @@ holds-more card fs f h =
           (newest form.number 3 f fs (card .groups) (ap (λ (z : paper.Card). z .groups) (h .reads)))
           (newest form.number 4 f fs (card .trefi) (ap (λ (z : paper.Card). z .trefi) (h .reads)))
           (newest form.number 25 f fs (card .gap) (ap (λ (z : paper.Card). z .gap) (h .reads)))
+          (newest form.number 26 f fs (card .raise) (ap (λ (z : paper.Card). z .raise) (h .reads)))
           (ap (λ (z : paper.Card). eqb t 19 || z .sleeps) (h .reads))
           (ap (λ (z : paper.Card). eqb t 25 || z .paired) (h .reads))
           (λ k lt.

@@ -27,10 +27,10 @@ unfolding within
 is-within a b x low high = rw (le-leb a x low, le-leb x b high)
 
 -- a card's tag that is none of a number's is a timing's
-pub a-timing : (t : ℕ) → ofCard t ≡ true → (t ≡ 1 → ⊥) → (t ≡ 2 → ⊥) → (t ≡ 3 → ⊥) → (t ≡ 4 → ⊥) → (t ≡ 25 → ⊥) → (5 ≤ t) × (t ≤ 22)
+pub a-timing : (t : ℕ) → ofCard t ≡ true → (t ≡ 1 → ⊥) → (t ≡ 2 → ⊥) → (t ≡ 3 → ⊥) → (t ≡ 4 → ⊥) → (t ≡ 25 → ⊥) → (t ≡ 26 → ⊥) → (5 ≤ t) × (t ≤ 22)
 unfolding ofCard
-a-timing t e a b c d f =
-    let (low, high) = within-both 1 22 t (rw (ne-eqb t 25 f, or-false (within 1 22 t)) at e) in
+a-timing t e a b c d f g =
+    let (low, high) = within-both 1 22 t (rw (ne-eqb t 25 f, ne-eqb t 26 g, or-false (within 1 22 t), or-false (within 1 22 t)) at e) in
     (omega arith, high)
 
 -- what holds of each row holds of a tag and a length that are listed

@@ -3,7 +3,7 @@ use Prim.Native.Nat.{ℕ, _+_, _*_, _^_, _≤_, _<_}
 use mathlib.Core.Path.{_≡_}
 use mathlib.Core.Bool.{Bool, true, _&&_}
 use mathlib.Core.List.{List}
-use native.Mathlib.Nat.{zero-add}
+use native.Mathlib.Nat.{zero-add, mul-le-mul}
 use native.Mathlib.Numerals.{add-one}
 use native.Mathlib.Omega.{arith}
 use lib.Dec.{leb}
@@ -28,6 +28,9 @@ one-more i x b h l =
 
 pub four-fit : (i x : ℕ) → i ≤ 4 → x < 2 ^ (8 * i) → x < 2 ^ 32
 four-fit i x h l = let m : 2 ^ (8 * i) ≤ 2 ^ 32 = pow-mono {j = 32} (omega arith) in omega arith
+
+pub sixteen-fit : (x k : ℕ) → x < 2 ^ 32 → k ≤ 16 → x * k < 2 ^ 37
+sixteen-fit x k h l = let m : x * k ≤ 2 ^ 32 * 16 = mul-le-mul {n₂ = 2 ^ 32} (omega arith) l in omega arith
 
 pub last-byte : (v : List ℕ) → length v ≡ 5 → getD v 4 0 ≡ number (drop 4 v)
 unfolding number numberFrom

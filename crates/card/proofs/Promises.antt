@@ -9,8 +9,9 @@ use Rattle.card.proofs.ranges.in_range as in-range
 use Rattle.card.proofs.registers.latency_of as latency-of
 use Rattle.card.proofs.registers.mrw_value_good as mrw-value-good
 use Rattle.card.proofs.registers.mr2_good as mr2-good
-use Rattle.card.proofs.timings.delays_of as delays-of
-use Rattle.card.proofs.timings.interval as interval
+use Rattle.card.proofs.timings.delays_at as delays-at
+use Rattle.card.proofs.timings.interval_at as interval-at
+use Rattle.card.proofs.heat.mr4_good as mr4-good
 use Rattle.card.proofs.units.greater as greater
 use Rattle.card.proofs.tags.may_come as may-come
 use Rattle.card.proofs.benched.bench as bench
@@ -36,6 +37,12 @@ mrw-value-good-says w = mrw-value-good.clauses (w .𝓤) (w .H) (w .𝓖 .A) (w 
 pub mrw-value-good-determined : Determined mrw-value-good.ended mrw-value-good-says
 mrw-value-good-determined = determined mrw-value-good.ended mrw-value-good-says (λ κs a r e. fact-of _) (λ κs a r r′ ws ws′ p p′. (p ∙ sym p′, refl))
 
+abbrev mr4-good-says : Promise mr4-good.ended
+mr4-good-says w = mr4-good.clauses (w .𝓤) (w .H) (w .𝓖 .A) (w .𝓜 .mem) (w .𝓡 .run)
+
+pub mr4-good-determined : Determined mr4-good.ended mr4-good-says
+mr4-good-determined = determined mr4-good.ended mr4-good-says (λ κs a r e. fact-of _) (λ κs a r r′ ws ws′ p p′. (p ∙ sym p′, refl))
+
 abbrev latency-of-says : Promise latency-of.ended
 latency-of-says w = latency-of.clauses (w .𝓤) (w .H) (w .𝓖 .A) (w .𝓜 .mem) (w .𝓡 .run)
 
@@ -44,11 +51,11 @@ latency-of-determined =
     determined latency-of.ended latency-of-says (λ κs a r e. fact-of _)
     (λ κs a r r′ ws ws′ p p′. (λ i. record { rl = (p .0 ∙ sym (p′ .0)) i; wl = (p .1 ∙ sym (p′ .1)) i }, refl))
 
-abbrev interval-says : Promise interval.ended
-interval-says w = interval.clauses (w .𝓤) (w .H) (w .𝓖 .A) (w .𝓜 .mem) (w .𝓡 .run)
+abbrev interval-at-says : Promise interval-at.ended
+interval-at-says w = interval-at.clauses (w .𝓤) (w .H) (w .𝓖 .A) (w .𝓜 .mem) (w .𝓡 .run)
 
-pub interval-determined : Determined interval.ended interval-says
-interval-determined = determined interval.ended interval-says (λ κs a r e. fact-of _) (λ κs a r r′ ws ws′ p p′. (p ∙ sym p′, refl))
+pub interval-at-determined : Determined interval-at.ended interval-at-says
+interval-at-determined = determined interval-at.ended interval-at-says (λ κs a r e. fact-of _) (λ κs a r r′ ws ws′ p p′. (p ∙ sym p′, refl))
 
 abbrev greater-says : Promise greater.ended
 greater-says w = greater.clauses (w .𝓤) (w .H) (w .𝓖 .A) (w .𝓜 .mem) (w .𝓡 .run)
@@ -86,12 +93,12 @@ pub clocks-tell : (d e : Delays) → clocksOf d ≡ clocksOf e → d ≡ e
 unfolding clocksOf delaysIn
 clocks-tell d e q = ap delaysIn q
 
-abbrev delays-of-says : Promise delays-of.ended
-delays-of-says w = delays-of.clauses (w .𝓤) (w .H) (w .𝓖 .A) (w .𝓜 .mem) (w .𝓡 .run)
+abbrev delays-at-says : Promise delays-at.ended
+delays-at-says w = delays-at.clauses (w .𝓤) (w .H) (w .𝓖 .A) (w .𝓜 .mem) (w .𝓡 .run)
 
-pub delays-of-determined : Determined delays-of.ended delays-of-says
-delays-of-determined =
-    determined delays-of.ended delays-of-says (λ κs a r e. fact-of _) (λ κs a r r′ ws ws′ p p′. (clocks-tell r r′ (p ∙ sym p′), refl))
+pub delays-at-determined : Determined delays-at.ended delays-at-says
+delays-at-determined =
+    determined delays-at.ended delays-at-says (λ κs a r e. fact-of _) (λ κs a r r′ ws ws′ p p′. (clocks-tell r r′ (p ∙ sym p′), refl))
 
 abbrev bench-says : Promise bench.ended
 bench-says w = bench.clauses (w .𝓤) (w .H) (w .𝓖 .A) (w .𝓜 .mem) (w .𝓡 .run)

@@ -15,4 +15,5 @@ benchCard = record {
   sleeps = false;
   paired = false;
   gap = 0;
+  raise = 0;
 }

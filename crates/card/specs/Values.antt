@@ -40,6 +40,7 @@ cardOf card = record {
   txsr = timingIn card 17;
   paired = card .paired;
   gap = card .gap;
+  raise = card .raise;
 }
 
 unfoldable pub clocksOf : Delays → units.Delays

@@ -1,4 +1,4 @@
-// Document 01's bench card, which has neither tags 19 to 22 nor tag 25.
+// Document 01's bench card, which has neither tags 19 to 22 nor tag 25 or 26.
 ghost use mathlib.Core.Path.{_≡_};
 ghost use Rattle.card.specs.Bench.{benchCard};
 use crate::Card;
@@ -35,5 +35,6 @@ pub fn bench() -> Card
         sleeps: false,
         paired: false,
         gap: 0,
+        raise: 0,
     }
 }

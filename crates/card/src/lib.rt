@@ -1,5 +1,6 @@
-// The device card by value: the ranges of its values, the latencies of MR2, its delays in clocks, and its fields read from bytes.
+// The device card by value: the ranges of its values, the latencies of MR2, its delays in clocks by the temperature, and its fields read from bytes.
 mod benched;
+mod heat;
 mod ranges;
 mod registers;
 mod tags;
@@ -8,13 +9,14 @@ mod units;
 mod values;
 
 pub use benched::bench;
+pub use heat::mr4_good;
 pub use ranges::in_range;
 pub use registers::latency_of;
 pub use registers::mr2_good;
 pub use registers::mrw_value_good;
 pub use tags::may_come;
-pub use timings::delays_of;
-pub use timings::interval;
+pub use timings::delays_at;
+pub use timings::interval_at;
 pub use units::greater;
 pub use values::blank;
 pub use values::length_good;
@@ -26,7 +28,7 @@ pub struct Clocks(pub u64);
 
 // `durations` and `floors` are the two columns of tags 5 to 22: trcd, trppb, trpab, tras, trrd, tfaw, trtp, twr, twtr, tdqsck,
 // trfcab, trfcpb, tmrr, tmrw, tcke, txp, tckesr, txsr. `sleeps`: tags 19 to 22 are there. `paired`: tag 25 is there; `gap`: its clocks between
-// the two parts.
+// the two parts. `raise`: tag 26, what the hottest code of MR4 adds to the first five durations; 0 where the card has none.
 pub struct Card {
     pub period: u32,
     pub mr2: u8,
@@ -37,6 +39,7 @@ pub struct Card {
     pub sleeps: bool,
     pub paired: bool,
     pub gap: u8,
+    pub raise: u32,
 }
 
 // In clocks, in 32 bits, which hold every delay of a card in range.

@@ -43,6 +43,9 @@ pub fn value_good(sleeps: bool, period: u32, tag: u8, x: u32, floor: u8) -> bool
     if tag == 25 {
         return (x <= 255) & !sleeps;
     }
+    if tag == 26 {
+        return x <= 1_000_000;
+    }
     timing_good(x, floor)
 }
 
@@ -66,5 +69,7 @@ pub fn in_range(card: Card) -> bool
         & mr2_good(card.period, card.mr2)
         & value_good(card.sleeps, card.period, 3, card.groups as u32, 0)
         & value_good(card.sleeps, card.period, 4, card.trefi, 0)
-        & (timings_good(card) & !(card.sleeps & card.paired))
+        & (timings_good(card)
+            & (!(card.sleeps & card.paired)
+                & value_good(card.sleeps, card.period, 26, card.raise, 0)))
 }

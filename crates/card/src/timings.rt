@@ -1,14 +1,18 @@
-// The delays of a card in clocks: n(x), tRC, I.
+// The delays of a card in clocks, by the temperature: n(x), tRC, I.
 ghost use mathlib.Core.Path.{_≡_};
-ghost use Prim.Native.Nat.{_+_, _<_, _^_};
+ghost use Prim.Native.Nat.{_+_, _*_, _≤_, _<_, _^_};
 ghost use Rattle.rules.specs.Units as paper;
-ghost use Rattle.card.specs.Values.{cardOf, timingIn, clipped, clocksOf, shortened};
-ghost use Rattle.card.specs.Parts.{Counted, Timed};
+ghost use Rattle.rules.specs.Heat.{hotCard, delaysAt, intervalAt};
+ghost use Rattle.card.specs.Values.{cardOf, clipped, clocksOf, shortened};
+ghost use Rattle.card.specs.Parts.{raisedBy, raisedIn, raiseAt, Counted, Timed};
 use crate::Card;
 use crate::Clocks;
 use crate::Delays;
 use crate::Picoseconds;
+use crate::heat::is_hot;
+use crate::heat::quarters;
 use crate::units::Timing;
+use crate::units::greater;
 use crate::units::least_clocks;
 use crate::units::whole_periods;
 
@@ -24,13 +28,25 @@ fn clocks(x: u8) -> Clocks
     Clocks(x as u64)
 }
 
-// The timing at this place of the two columns.
-fn timing(card: Card, i: usize) -> Timing
+// The duration at this place, the first five longer by the raise.
+fn duration(card: Card, raise: u32, i: usize) -> Picoseconds
     requires { ⌜ i < 18 ⌝ }
-    ensures { λ r. ⌜ Timed card i r ⌝ }
+    ensures { λ r. ⌜ (r .0 ≡ raisedIn card raise i .duration) × (r .0 < 2 ^ 33) ⌝ }
+{
+    let own = picoseconds(card.durations[i]);
+    if i < 5 {
+        return Picoseconds(own.0 + picoseconds(raise).0);
+    }
+    own
+}
+
+// The timing at this place of the two columns.
+fn timing(card: Card, raise: u32, i: usize) -> Timing
+    requires { ⌜ i < 18 ⌝ }
+    ensures { λ r. ⌜ Timed card raise i r ⌝ }
 {
     Timing {
-        duration: picoseconds(card.durations[i]),
+        duration: duration(card, raise, i),
         floor: clocks(card.floors[i]),
     }
 }
@@ -46,31 +62,31 @@ fn short(k: Clocks) -> u32
 }
 
 // n(x)
-fn timing_clocks(card: Card, i: usize) -> u32
+fn timing_clocks(card: Card, raise: u32, i: usize) -> u32
     requires { ⌜ i < 18 ⌝ }
-    ensures { λ r. ⌜ r ≡ clipped (paper.n (cardOf card) (timingIn card i)) ⌝ }
+    ensures { λ r. ⌜ r ≡ clipped (paper.n (cardOf card) (raisedIn card raise i)) ⌝ }
 {
-    short(least_clocks(timing(card, i), picoseconds(card.period)))
+    short(least_clocks(timing(card, raise, i), picoseconds(card.period)))
 }
 
-fn all_clocks(card: Card) -> [u32; 18]
-    ensures { λ r. ⌜ Counted card 18 r ⌝ }
+fn all_clocks(card: Card, raise: u32) -> [u32; 18]
+    ensures { λ r. ⌜ Counted card raise 18 r ⌝ }
 {
     let mut out = [0; 18];
     let mut i: usize = 0;
     while i < 18 {
-        out[i] = timing_clocks(card, i);
+        out[i] = timing_clocks(card, raise, i);
         i += 1;
     }
     out
 }
 
-// tRAS and tRPpb as one timing: both durations and both floors summed.
-fn joined_clocks(card: Card) -> Clocks
-    ensures { λ r. ⌜ r .0 ≡ paper.rowCycle (cardOf card) ⌝ }
+// tRAS and tRPpb as one timing: both durations, each raised, and both floors summed.
+fn joined_clocks(card: Card, raise: u32) -> Clocks
+    ensures { λ r. ⌜ r .0 ≡ paper.rowCycle (hotCard (cardOf (raisedBy raise card))) ⌝ }
 {
-    let ras = timing(card, 3);
-    let rp = timing(card, 1);
+    let ras = timing(card, raise, 3);
+    let rp = timing(card, raise, 1);
     let both = Timing {
         duration: Picoseconds(ras.duration.0 + rp.duration.0),
         floor: Clocks(ras.floor.0 + rp.floor.0),
@@ -79,17 +95,18 @@ fn joined_clocks(card: Card) -> Clocks
 }
 
 // tRC
-fn row_cycle(card: Card) -> u32
-    ensures { λ r. ⌜ r ≡ clipped (paper.rowCycle (cardOf card)) ⌝ }
+fn row_cycle(card: Card, raise: u32) -> u32
+    ensures { λ r. ⌜ r ≡ clipped (paper.rowCycle (hotCard (cardOf (raisedBy raise card)))) ⌝ }
 {
-    short(joined_clocks(card))
+    short(joined_clocks(card, raise))
 }
 
-pub fn delays_of(card: Card) -> Delays
-    ensures { λ r. ⌜ clocksOf r ≡ shortened (paper.delaysOf (cardOf card)) ⌝ }
+// Those of a card whose hottest code adds this raise, at that code.
+fn hot_delays(card: Card, raise: u32) -> Delays
+    ensures { λ r. ⌜ clocksOf r ≡ shortened (paper.delaysOf (hotCard (cardOf (raisedBy raise card)))) ⌝ }
 {
-    let n = all_clocks(card);
-    let trc = row_cycle(card);
+    let n = all_clocks(card, raise);
+    let trc = row_cycle(card, raise);
     Delays {
         trcd: n[0],
         trppb: n[1],
@@ -114,9 +131,31 @@ pub fn delays_of(card: Card) -> Delays
     }
 }
 
-// I
-pub fn interval(card: Card) -> u32
-    ensures { λ r. ⌜ r ≡ paper.interval (cardOf card) ⌝ }
+fn raise_at(card: Card, mr4: u8) -> u32
+    ensures { λ r. ⌜ r ≡ raiseAt card mr4 ⌝ }
 {
-    whole_periods(picoseconds(card.trefi), picoseconds(card.period)).0 as u32
+    if is_hot(mr4) { card.raise } else { 0 }
+}
+
+// The delays with this value of MR4 in force; at any code but the hottest they are raised by nothing.
+pub fn delays_at(card: Card, mr4: u8) -> Delays
+    ensures { λ r. ⌜ clocksOf r ≡ shortened (delaysAt (cardOf card) mr4) ⌝ }
+{
+    hot_delays(card, raise_at(card, mr4))
+}
+
+fn times(d: Picoseconds, k: u64) -> Picoseconds
+    requires { ⌜ (d .0 < 2 ^ 32) × (k ≤ 16) ⌝ }
+    ensures { λ r. ⌜ (r .0 ≡ d .0 * k) × (r .0 < 2 ^ 37) ⌝ }
+{
+    Picoseconds(d.0 * k)
+}
+
+// I: the quarters of tREFI over four periods, so that the factor goes in before the rounding.
+pub fn interval_at(card: Card, mr4: u8) -> u64
+    ensures { λ r. ⌜ r ≡ intervalAt (cardOf card) mr4 ⌝ }
+{
+    let refi = times(picoseconds(card.trefi), quarters(mr4));
+    let period = times(picoseconds(card.period), 4);
+    greater(1, whole_periods(refi, period).0)
 }

@@ -15,7 +15,7 @@ use crate::tags::of_card;
 fn listed(tag: u8) -> usize
     ensures { λ r. ⌜ r ≡ reading.sizeOf tag ⌝ }
 {
-    if (tag == 1) | (tag == 4) | (tag == 33) {
+    if (tag == 1) | (tag == 4) | (tag == 26) | (tag == 33) {
         return 4;
     }
     if (tag == 2) | (tag == 25) {
@@ -24,7 +24,7 @@ fn listed(tag: u8) -> usize
     if tag == 3 {
         return 2;
     }
-    if (5 <= tag) & (tag <= 22) {
+    if ((5 <= tag) & (tag <= 22)) | (tag == 34) {
         return 5;
     }
     if tag == 32 {
@@ -60,7 +60,7 @@ fn number(bytes: &[u8]) -> u32
     x
 }
 
-// The whole value of tags 1 to 4 and 25, and the duration of a timing.
+// The whole value of tags 1 to 4, 25 and 26, and the duration of a timing.
 fn first_four(value: &[u8]) -> u32
     ensures { λ r. ⌜ r ≡ form.number (take 4 (now (value .entry))) ⌝ }
 {
@@ -79,6 +79,18 @@ fn fifth(value: &[u8]) -> u8
         return 0;
     }
     value[4]
+}
+
+fn put_timing(card: Card, tag: u8, x: u32, floor: u8) -> Card
+    requires { ⌜ (5 ≤ tag) × (tag ≤ 22) ⌝ }
+    ensures { λ r. ⌜ r ≡ reading.put card tag x (timing x floor) ⌝ }
+{
+    let mut next = card;
+    let i = (tag - 5) as usize;
+    next.durations[i] = x;
+    next.floors[i] = floor;
+    next.sleeps = (tag == 19) | card.sleeps;
+    next
 }
 
 fn put(card: Card, tag: u8, x: u32, floor: u8) -> Card
@@ -107,11 +119,11 @@ fn put(card: Card, tag: u8, x: u32, floor: u8) -> Card
         next.gap = x as u8;
         return next;
     }
-    let i = (tag - 5) as usize;
-    next.durations[i] = x;
-    next.floors[i] = floor;
-    next.sleeps = (tag == 19) | card.sleeps;
-    next
+    if tag == 26 {
+        next.raise = x;
+        return next;
+    }
+    put_timing(card, tag, x, floor)
 }
 
 fn taken(card: Card, tag: u8, x: u32, floor: u8) -> Read
@@ -163,5 +175,6 @@ pub fn blank() -> Card
         sleeps: false,
         paired: false,
         gap: 0,
+        raise: 0,
     }
 }

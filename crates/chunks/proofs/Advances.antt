@@ -52,7 +52,7 @@ refused-how (some r) x st m f g e = g _ e
 pub field-how : {A : Type 0} (st : State) (f : form.Field) (m : Move) → (On (form.sizeOf f) ≡ m → A) → ((v : Verdict) → End v ≡ m → A) → fieldTook st f .how ≡ m → A
 unfolding fieldTook cardTook entryTook endTook
 field-how st f m g h =
-    either-how (eqb (f .tag) 32) (entryTook st f) (cond (eqb (f .tag) 33) (endTook st f) (cardTook st f)) m
+    either-how (form.ofEntry (f .tag)) (entryTook st f) (cond (eqb (f .tag) 33) (endTook st f) (cardTook st f)) m
     (refused-how (entryRefused st f) (tookAs (On (form.sizeOf f)) (entryAfter st f)) st m g h)
     (either-how (eqb (f .tag) 33) (endTook st f) (cardTook st f) m
     (refused-how (lent.closeRefusal (lentOf (st .rec)) (form.endOf f)) (tookAs (On (form.sizeOf f)) (endAfter st f)) st m g h)
@@ -93,14 +93,14 @@ on-field st bs n e = let t = took-on st bs n e in record { in-time = t .0; front
 pub taken-size : (st : State) (bs : List ℕ) (n : ℕ) → tookOf st bs .how ≡ On n → (3 ≤ n) × (n ≤ length bs)
 taken-size st bs n e = let f = on-field st bs n e .fronted in (f .least, f .long)
 
--- ---- where no entry that is taken stands there, it has no line
+-- ---- where no entry of pins that is taken stands there, it has no line
 refused-ends : {A : Type 0} (o : Option Refusal) (st : State) (x : Took) (n : ℕ) → isNone o ≡ false → unlessRefused st x o .how ≡ On n → A
 unfolding isNone refusedHere
 refused-ends none st x n i e = absurd (let z : _≡_ {A = ℕ} 0 1 = cc in omega arith)
 refused-ends (some r) st x n i e = end-on e
 
 field-line : (st : State) (f : form.Field) (n : ℕ) (b : Bool) → eqb (f .tag) 32 ≡ b → (f .tag ≡ 32 → isNone (entryRefused st f) ≡ false) → fieldTook st f .how ≡ On n → fieldLine st f ≡ []
-unfolding fieldLine fieldTook entryTook
+unfolding fieldLine fieldTook entryTook form.ofEntry
 field-line st f n true t r e = refused-ends (entryRefused st f) st _ n (r (eqb-true (f .tag) 32 t)) (rw t at e)
 field-line st f n false t r e = rw t
 

@@ -1,4 +1,4 @@
--- The field of an entry, and the front of some bytes that it is.
+-- The field of an entry of pins, and the front of some bytes that it is.
 use Prim.Native.Nat.{ℕ, _+_, _*_, _-_, _≤_}
 use mathlib.Core.Path.{_≡_, refl, sym, _∙_}
 use mathlib.Core.Bool.{Bool, true, false, cond, _&&_}
@@ -76,10 +76,10 @@ module _ (bs : List ℕ) (w : frontOf bs .whole ≡ true) where
 
   -- and where it is all of them, that entry
   pub entry-in : length bs ≡ 10 → form.entryOf (fieldIn bs) ≡ entryAt bs
-  unfolding form.entryOf fieldIn
-  entry-in h = rw (front-is, drop-drop 4 3 bs, take-all 3 (drop 7 bs) (rw length-drop (omega arith)))
+  unfolding form.entryOf form.bodyOf fieldIn
+  entry-in h = rw (front-is, front-tag, drop-drop 4 3 bs, take-all 3 (drop 7 bs) (rw length-drop (omega arith)))
 
--- some bytes that are the field of an entry that is not taken
+-- some bytes that are the field of an entry of pins that is not taken
 pub refused-in : (rec : Record) (bs : List ℕ) → NotTaken rec bs → isNone (stepRefusal (lentOf rec) (form.entryOf (fieldIn bs))) ≡ false
 unfolding takes
 refused-in rec bs t = rw (entry-in bs (t .whole) (t .size)) (rw (t .whole) at (t .refused))
@@ -91,7 +91,7 @@ entry-part bs w =
     let e = front-first bs l in
     entry-in (take 10 bs) (rw e w) (length-take-le 10 bs l) ∙ rw e
 
--- ---- a whole field with the tag of an entry
+-- ---- a whole field with the tag of an entry of pins
 is-front : (bs : List ℕ) → 10 ≤ length bs → getD bs 0 0 ≡ 32 → 256 * getD bs 1 0 + getD bs 2 0 ≡ 7 → frontOf bs .whole ≡ true
 unfolding frontOf isEntry
 is-front bs l t n = rw (le-leb 10 (length bs) l, t, eq-eqb (getD bs 1 0) 0 (omega arith), eq-eqb (getD bs 2 0) 7 (omega arith))

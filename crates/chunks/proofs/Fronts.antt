@@ -23,7 +23,7 @@ come-as b last tag = refl
 
 -- and behind it another
 pub still-comes : (b : Bool) (last : ℕ) → form.mayFollow b last 32 ≡ true → form.mayFollow true last 32 ≡ true
-unfolding form.mayFollow form.ofTrace
+unfolding form.mayFollow form.ofTrace form.ofEntry
 still-comes b last e = e
 
 -- but none behind the end field

@@ -12,7 +12,7 @@ use mir.Syntax.{w64}
 use mir.Val.{Fits}
 use borrow.Author.Tests.{eq-eqb, ne-eqb, le-leb}
 use Rattle.rules.specs.Levels.{Read}
-use Rattle.rules.specs.Entries.{whoseOf, recordedAs}
+use Rattle.rules.specs.Entries.{whoseBody, whoseOf, recordedAs}
 use Rattle.rules.specs.Form as form
 use Rattle.rules.specs.Lent.{lentGood, commandIn, stepRefusal}
 use Rattle.rules.proofs.Sound.{step-passed}
@@ -89,10 +89,10 @@ module _ (st : State) (bs : List ℕ) (comes : entryMayCome st ≡ true) (b : By
   stands = standsIn (st .rec)
 
   abbrev here : Read
-  here = readBy (st .rec) (entryAt bs)
+  here = readBy (st .rec) bs
 
   abbrev counter : ℕ
-  counter = counterFor (whoseIn (st .rec) (entryAt bs)) (st .rec .first .counter) (st .rec .second .counter)
+  counter = counterFor (whoseIn (st .rec) bs) (st .rec .first .counter) (st .rec .second .counter)
 
   -- the state behind it
   abbrev pub next : State
@@ -103,12 +103,13 @@ module _ (st : State) (bs : List ℕ) (comes : entryMayCome st ≡ true) (b : By
   after-is = rw (entry-is, size-is)
 
   took-here : tookOf st bs ≡ tookAs (On 10) next
-  unfolding tookOf headAt headTook fieldTook entryTook entryRefused
+  unfolding tookOf headAt headTook fieldTook entryTook entryRefused form.ofEntry
   took-here = rw (
     ne-eqb (st .tag) 33 (not-behind (st .rec .last .seen) (st .tag) comes),
     fronted .is,
     headTook,
     fieldTook,
+    form.ofEntry,
     eq-eqb (field .tag) 32 tag-is,
     entryTook,
     entry-is,
@@ -121,22 +122,22 @@ module _ (st : State) (bs : List ℕ) (comes : entryMayCome st ≡ true) (b : By
   card = st .rec .card
 
   line-here : lineOf st bs ≡ lineAt (card .sleeps) (card .paired) stands bs
-  unfolding lineOf headAt headLine fieldLine lineAt commandIn whoseOf
+  unfolding lineOf headAt headLine fieldLine lineAt commandIn whoseOf whoseBody
   line-here =
-      rw (fronted .is, headLine, fieldLine, eq-eqb (field .tag) 32 tag-is, entry-is, read-by (st .rec) (entryAt bs) good, counter-by (st .rec) (entryAt bs))
+      rw (fronted .is, headLine, fieldLine, eq-eqb (field .tag) 32 tag-is, entry-is, read-by (st .rec) bs good, counter-by (st .rec) bs)
       (unfold lentOf cardOf in refl)
 
   line-short : length (lineAt (card .sleeps) (card .paired) stands bs) ≤ 24
   unfolding lineAt
   line-short =
-      entry-short (frontOf bs .stamp) (recordedAs here) (whoseIn (st .rec) (entryAt bs)) counter
+      entry-short (frontOf bs .stamp) (recordedAs here) (whoseIn (st .rec) bs) counter
       (rw (front-is bs (parts .0)) (four-small (drop 3 bs) (bytes-drop 3 bs b)))
-      (bank-low (recordedAs here) counter (counter-low (st .rec) (entryAt bs) good) (recorded-bank (card .sleeps) (card .paired) (stands .level) (frontOf bs .pins)))
-      (part-low (st .rec) (entryAt bs))
+      (bank-low (recordedAs here) counter (counter-low (st .rec) bs good) (recorded-bank (card .sleeps) (card .paired) (stands .level) (frontOf bs .pins)))
+      (part-low (st .rec) bs)
 
   next-stands : standsIn (next .rec) ≡ nextAt (card .sleeps) (card .paired) stands bs
   unfolding stateWith nextAt
-  next-stands = stands-after (st .rec) (entryAt bs) (parts .1)
+  next-stands = stands-after (st .rec) bs (parts .1)
 
   next-card : next .rec .card ≡ card
   unfolding stateWith recordWith recordAfter

@@ -5,7 +5,7 @@ use mathlib.Core.List.{[], _∷_}
 use native.Mathlib.Omega.{arith}
 use lib.ListN.{length, length-append}
 use Rattle.rules.specs.Commands.{Kind, NOP, MRW, MRR, REFPB, REFAB, ACT, RD, WR, PRE, PREA, RESERVED, Command, kindOf, apOf}
-use Rattle.rules.specs.Whose.{Whose, sole, part, neither, partOf}
+use Rattle.rules.specs.Whose.{Whose, sole, part, neither, both, partOf}
 use Rattle.rules.specs.Past.{bankAt}
 use Rattle.rules.specs.Lines.{decimal, nameOf, showsBank, shownPart, entryLine}
 use Rattle.lines.proofs.Decimals.{short}
@@ -35,6 +35,7 @@ unfolding shownPart partOf
 part-short sole h = omega arith
 part-short (part p) h = omega (arith, short 0 p (omega arith))
 part-short neither h = omega arith
+part-short both h = omega arith
 
 pub entry-short : (t : ℕ) (c : Command) (w : Whose) (n : ℕ) → t < 2 ^ 32 → bankAt c n ≤ 7 → partOf w < 2 → length (entryLine t c w n) ≤ 24
 unfolding entryLine

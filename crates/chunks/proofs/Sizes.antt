@@ -26,6 +26,10 @@ pub entry-size : (t l : ℕ) → t ≡ 32 → 3 ≤ l → form.lengthGood t (l -
 unfolding reading.sizeOf within
 entry-size t l e h g = omega (arith, sized-at t 32 (l - 3) e (lit< tt) g)
 
+pub sensed-size : (t l : ℕ) → t ≡ 34 → 3 ≤ l → form.lengthGood t (l - 3) ≡ true → l ≡ 8
+unfolding reading.sizeOf within
+sensed-size t l e h g = omega (arith, sized-at t 34 (l - 3) e (lit< tt) g)
+
 pub end-size : (t l : ℕ) → t ≡ 33 → 3 ≤ l → form.lengthGood t (l - 3) ≡ true → l ≡ 7
 unfolding reading.sizeOf within
 end-size t l e h g = omega (arith, sized-at t 33 (l - 3) e (lit< tt) g)

@@ -88,11 +88,11 @@ some-told x r = go (eqb (x .0) 0)
     go true e = absurd (some-none e)
     go false e = cc
 
-told-bad : (o : Option Refusal) (x : Told) → toldOf x ≡ o → (x .0 ≡ 0 → ⊥) → o ≡ some (refusal (x .0) (x .1) (x .2))
+pub told-bad : (o : Option Refusal) (x : Told) → toldOf x ≡ o → (x .0 ≡ 0 → ⊥) → o ≡ some (refusal (x .0) (x .1) (x .2))
 unfolding toldOf
 told-bad o x e n = sym e ∙ rw (ne-eqb _ _ n)
 
-told-good : (o : Option Refusal) (x : Told) → toldOf x ≡ o → x .0 ≡ 0 → o ≡ none
+pub told-good : (o : Option Refusal) (x : Told) → toldOf x ≡ o → x .0 ≡ 0 → o ≡ none
 unfolding toldOf
 told-good o x e z = sym e ∙ rw (eq-eqb _ _ z)
 
@@ -128,7 +128,7 @@ module _ (st : State) (f : form.Field) (r : Paid) (l : ClosedAs (st .rec) (form.
   unfolding ledgersEnd ledgersIn paid.unlessRefused
   ledgers-are o =
       let old = ledgersIn (st .rec) in
-      let there = lent.movedOn (cardOf (st .rec .card)) (paid.ledgerOf (st .rec .second .ledger)) (form.endOf f) in
+      let there = lent.movedOn (cardOf (st .rec .card)) (paid.paceOf (st .rec .pace)) (paid.ledgerOf (st .rec .second .ledger)) (form.endOf f) in
       λ i. ledgersAs
       ((sym (code-is (r .ledgers .first)) ∙ ap paid.codeOf (rw o at (l .first))) i)
       (second-is (st .rec .card .paired) old (r .ledgers .second) there (rw o at (l .second)) i)

@@ -28,7 +28,7 @@ unfoldable pub startOf : State
 startOf = record { tag = 0; rec = freshOf blankCard; commands = 0; refreshes = 0; offset = 0 }
 
 -- ---- lines
--- the line of an entry; no other field has one
+-- the line of an entry of pins; no other field has one
 unfoldable pub fieldLine : State → Field → List ℕ
 fieldLine st f =
     let l = lentOf (st .rec) in

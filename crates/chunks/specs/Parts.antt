@@ -39,7 +39,7 @@ headAs form.badLength = BadLength
 unfoldable pub toldOf : Told → Option Refusal
 toldOf x = cond (eqb (x .0) 0) none (some (refusal (x .0) (x .1) (x .2)))
 
--- some bytes are an entry's field, and a record does not take it
+-- some bytes are the field of an entry of pins, and a record does not take it
 pub record NotTaken (rec : Record) (bs : List ℕ) : Type 0 where
   pub size : length bs ≡ 10
   pub whole : frontOf bs .whole ≡ true
@@ -80,7 +80,7 @@ stateWith st r = record {
 abbrev pub entryMayCome : State → Bool
 entryMayCome st = form.mayFollow (st .rec .last .seen) (st .tag) 32
 
--- no entry that is taken stands here
+-- no entry of pins that is taken stands here
 abbrev pub NoneHere : State → List ℕ → Type 0
 NoneHere st bs = entryMayCome st ≡ true → takes (st .rec) bs ≡ false
 

@@ -6,13 +6,14 @@ use mathlib.Core.List.{List, [], _∷_}
 use mathlib.Core.Option.{Option, none, some}
 use lib.Dec.{eqb}
 use Rattle.rules.specs.Checks.{Refusal}
-use Rattle.rules.specs.Form.{Field, sizeOf, number, timingOf, Head, whole, cut, badTag, badLength, headOf, entryOf, endOf}
+use Rattle.rules.specs.Form.{Field, sizeOf, number, timingOf, ofEntry, Head, whole, cut, badTag, badLength, headOf, entryOf, endOf}
 use Rattle.rules.specs.Lent.{stepRefusal, closeRefusal, movedOn}
 use Rattle.card.specs.declared.Card.{Card}
 use Rattle.card.specs.Values.{cardOf}
 use Rattle.card.specs.Reading.{put, readRefusal}
 use Rattle.ledger.specs.declared.Ledger.{Ledger}
-use Rattle.ledger.specs.Values.{ledgerOf, codeOf}
+use Rattle.ledger.specs.declared.Pace.{Pace}
+use Rattle.ledger.specs.Values.{ledgerOf, codeOf, paceOf}
 use Rattle.bank.specs.declared.Ledgers.{Ledgers}
 use Rattle.bank.specs.declared.Record.{Record}
 use Rattle.bank.specs.Values.{lentOf, freshOf}
@@ -53,7 +54,7 @@ cardAfter st f = record {
 unfoldable pub cardTook : State → Field → Took
 cardTook st f = elim (readRefusal (st .rec .card) (f .tag) (f .value)) [ none ↦ tookAs (On (sizeOf f)) (cardAfter st f) | some x ↦ refusedHere st x ]
 
--- ---- an entry
+-- ---- an entry, of pins or a temperature
 unfoldable pub entryAfter : State → Field → State
 entryAfter st f = record {
   tag = st .tag;
@@ -71,14 +72,15 @@ entryTook st f = elim (entryRefused st f) [ none ↦ tookAs (On (sizeOf f)) (ent
 
 -- ---- the end: the record's ledgers then stand at E, that of a part which is not there as it stood
 unfoldable pub recordClosed : Record → Ledgers → Record
-recordClosed rec g = record { card = rec .card; last = rec .last; first = withLedger (rec .first) (g .first); second = withLedger (rec .second) (g .second) }
+recordClosed rec g = record { card = rec .card; last = rec .last; pace = rec .pace; first = withLedger (rec .first) (g .first); second = withLedger (rec .second) (g .second) }
 
-abbrev pub ledgerEnd : Card → (end : ℕ) → Ledger → Ledger
-ledgerEnd card end g = codeOf (movedOn (cardOf card) (ledgerOf g) end)
+abbrev pub ledgerEnd : Card → Pace → (end : ℕ) → Ledger → Ledger
+ledgerEnd card pace end g = codeOf (movedOn (cardOf card) (paceOf pace) (ledgerOf g) end)
 
 unfoldable pub ledgersEnd : Record → (end : ℕ) → Ledgers
 ledgersEnd rec end =
-    ledgersAs (ledgerEnd (rec .card) end (rec .first .ledger)) (cond (rec .card .paired) (ledgerEnd (rec .card) end (rec .second .ledger)) (rec .second .ledger))
+    let there = ledgerEnd (rec .card) (rec .pace) end in
+    ledgersAs (there (rec .first .ledger)) (cond (rec .card .paired) (there (rec .second .ledger)) (rec .second .ledger))
 
 unfoldable pub endAfter : State → Field → State
 endAfter st f = record {
@@ -94,7 +96,7 @@ endTook st f = elim (closeRefusal (lentOf (st .rec)) (endOf f)) [ none ↦ tookA
 
 -- ---- any field
 unfoldable pub fieldTook : State → Field → Took
-fieldTook st f = cond (eqb (f .tag) 32) (entryTook st f) (cond (eqb (f .tag) 33) (endTook st f) (cardTook st f))
+fieldTook st f = cond (ofEntry (f .tag)) (entryTook st f) (cond (eqb (f .tag) 33) (endTook st f) (cardTook st f))
 
 unfoldable pub headTook : State → Head → Took
 headTook st cut = tookAs Wait st

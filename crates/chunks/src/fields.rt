@@ -10,8 +10,10 @@ use crate::State;
 use crate::Verdict;
 use crate::heads;
 use crate::heads::Head;
+use crate::leaps;
 use crate::told;
 use bank::Ledgers;
+use step::Ran;
 
 // What the bytes at a place are: a whole field of so many bytes, one whose rest is not there yet, or the end of the judging.
 pub enum Move {
@@ -70,7 +72,7 @@ fn take_card(state: State, bytes: &[u8]) -> Took
     }
 }
 
-// An entry that is not taken.
+// An entry of pins that is not taken.
 fn take_entry(state: State, bytes: &[u8]) -> Took
     requires { ⌜ NotTaken (state .rec) (now bytes) ⌝ }
     ensures { λ r. ⌜ r ≡ took.entryTook state (fieldIn (now (bytes .entry))) ⌝ }
@@ -80,6 +82,30 @@ fn take_entry(state: State, bytes: &[u8]) -> Took
     let answer = stepped.answer;
     let told = told::of_step(answer);
     refused(state, told.0, told.1, told.2)
+}
+
+// A temperature. It is neither counted nor printed.
+fn take_sensed(state: State, bytes: &[u8]) -> Took
+    requires { ⌜ (length (now bytes) ≡ 8) × (getD (now bytes) 0 0 ≡ 34) ⌝ }
+    ensures { λ r. ⌜ r ≡ took.entryTook state (fieldIn (now (bytes .entry))) ⌝ }
+{
+    let stepped = step::sense(state.rec, pins::stamp_at(bytes, 3), bytes[7]);
+    let answer = stepped.answer;
+    let rec = stepped.rec;
+    let told = told::of_step(answer);
+    if told.0 != 0 {
+        return refused(state, told.0, told.1, told.2);
+    }
+    let ran = Ran {
+        rec: rec,
+        used: 8,
+        commands: 0,
+        refreshes: 0,
+    };
+    Took {
+        how: Move::On(8),
+        state: leaps::state_with(state, ran),
+    }
 }
 
 // The state behind the end: the record's ledgers then stand at E.
@@ -121,7 +147,7 @@ fn take_end(state: State, bytes: &[u8]) -> Took
     }
 }
 
-// A field that is whole, and no entry that is taken.
+// A field that is whole, and no entry of pins that is taken.
 fn take_whole(state: State, bytes: &[u8]) -> Took
     requires { ⌜ (3 ≤ length (now bytes)) × (form.lengthGood (getD (now bytes) 0 0) (length (now bytes) - 3) ≡ true) ⌝ }
     requires { ⌜ (getD (now bytes) 0 0 ≡ 32 → NotTaken (state .rec) (now bytes)) ⌝ }
@@ -130,6 +156,9 @@ fn take_whole(state: State, bytes: &[u8]) -> Took
     let tag = bytes[0];
     if tag == 32 {
         return take_entry(state, bytes);
+    }
+    if tag == 34 {
+        return take_sensed(state, bytes);
     }
     if tag == 33 {
         return take_end(state, bytes);
@@ -150,7 +179,7 @@ fn take_behind(state: State, bytes: &[u8]) -> Took
     refused(state, 12, 0, 0)
 }
 
-// The field at the start, where that is no entry that is taken.
+// The field at the start, where that is no entry of pins that is taken.
 pub fn take_field(state: State, bytes: &[u8]) -> Took
     requires { ⌜ NoneHere state (now bytes) ⌝ }
     ensures { λ r. ⌜ r ≡ took.tookOf state (now (bytes .entry)) ⌝ }

@@ -1,4 +1,4 @@
-// Entries, as many at a time as a run takes.
+// Entries of pins, as many at a time as a run takes.
 ghost use mathlib.Core.Path.{_≡_};
 ghost use mathlib.Core.Bool.{true, false, _||_};
 ghost use Prim.Native.Nat.{_*_, _-_, _≤_};
@@ -17,7 +17,7 @@ pub struct Ahead {
     pub state: State,
 }
 
-fn state_with(state: State, ran: Ran) -> State
+pub fn state_with(state: State, ran: Ran) -> State
     ensures { λ r. ⌜ r ≡ stateWith state ran ⌝ }
 {
     let rec = ran.rec;

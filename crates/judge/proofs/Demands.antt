@@ -9,13 +9,12 @@ use contract.Lifetimes.{Lfts}
 use denote.Ref.{now}
 use denote.Triple.Clauses.{AtExit}
 use denote.Triple.Entry.{Args}
-use Rattle.rules.specs.Units.{interval}
 use Rattle.rules.specs.Whose.{parts}
 use Rattle.rules.specs.Past.{refreshStamps, countedStamps, commandCount}
 use Rattle.rules.specs.Entries.{pastOf}
 use Rattle.rules.specs.Account.{lpddr3, ledgerOn}
-use Rattle.rules.specs.Clock.{countedFrom, bookOf}
-use Rattle.rules.specs.Stretch.{countIn, Took}
+use Rattle.rules.specs.Clock.{countedFrom, intervalBelow, bookOf}
+use Rattle.rules.specs.Stretch.{countIn, Free, Took}
 use Rattle.rules.specs.Verdict.{sum, refreshCount}
 use Rattle.rules.specs.Reading.{Accepts}
 use Rattle.rules.specs.Form.{entryOf, endOf}
@@ -76,9 +75,10 @@ module _ (κs : Lfts (judge.signature .lifetimes)) (a : Args judge.signature κs
     ledger-of-each = accepts .ledgers ∙ ledgers-parts (cardIn file) _ (endOf (file .z))
 
     -- ---- demand 3
-    -- each bank of each part is refreshed at least L / I - 17 times in any stretch of cycles up to E, of which L are counted
-    pub bank-refreshed : (p : ℕ) → IsPart (cardIn file) p → (b c k : ℕ) → b < 8 → c + k ≤ endOf (file .z) + 1 →
-        countedFrom (ownPast file p) c k / interval (cardIn file) - 17 ≤ countIn c (c + k) (refreshStamps b (ownPast file p))
+    -- each bank of each part is refreshed at least L / I - 17 times in any stretch of cycles up to E, of which L are counted, and in which no temperature field
+    -- lies; I is the interval in force there
+    pub bank-refreshed : (p : ℕ) → IsPart (cardIn file) p → (b c k : ℕ) → b < 8 → c + k ≤ endOf (file .z) + 1 → Free (ownPast file p) c k →
+        countedFrom (ownPast file p) c k / intervalBelow (cardIn file) c (ownPast file p) - 17 ≤ countIn c (c + k) (refreshStamps b (ownPast file p))
     bank-refreshed = refreshed-file file
 
     -- of a card without tags 19 to 22 every cycle is counted, and L is the length of the stretch
@@ -89,13 +89,15 @@ module _ (κs : Lfts (judge.signature .lifetimes)) (a : Args judge.signature κs
       abbrev pub GroupAt : ℕ → Type 0
       GroupAt s = Took (cardIn file .groups) first g (refreshStamps b (ownPast file p)) s
 
-      abbrev pub span : ℕ
-      span = (cardIn file .groups + 17) * interval (cardIn file)
+      -- with the interval in force at cycle c
+      abbrev pub span : ℕ → ℕ
+      span c = (cardIn file .groups + 17) * intervalBelow (cardIn file) c (ownPast file p)
 
-      -- each row group of each bank is refreshed in every stretch with (R + 17) I counted cycles, and no more of them pass from one time to the next
-      pub group-refreshed : (c k : ℕ) → c + k ≤ endOf (file .z) + 1 → span ≤ countedFrom (ownPast file p) c k → (s : ℕ) × (c ≤ s) × (s < c + k) × GroupAt s
+      -- each row group of each bank is refreshed in every such stretch with (R + 17) I counted cycles, and no more of them pass from one time to the next, where no
+      -- field lies between
+      pub group-refreshed : (c k : ℕ) → c + k ≤ endOf (file .z) + 1 → Free (ownPast file p) c k → span c ≤ countedFrom (ownPast file p) c k → (s : ℕ) × (c ≤ s) × (s < c + k) × GroupAt s
       group-refreshed = every-group-file file p i first b g hb hg
 
-      pub group-in-time : (s t : ℕ) → GroupAt s → GroupAt t → s < t → ((u : ℕ) → GroupAt u → (u ≤ s) ⊎ (t ≤ u)) →
-          countedFrom (ownPast file p) (suc s) (t - s) ≤ span
+      pub group-in-time : (s t : ℕ) → GroupAt s → GroupAt t → s < t → ((u : ℕ) → GroupAt u → (u ≤ s) ⊎ (t ≤ u)) → Free (ownPast file p) (suc s) (t - suc s) →
+          countedFrom (ownPast file p) (suc s) (t - s) ≤ span (suc s)
       group-in-time = in-a-row-file file p i first b g hb hg

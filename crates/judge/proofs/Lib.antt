@@ -2,6 +2,7 @@
 pub mod Prefix
 pub mod Overflow
 pub mod Counts
+pub mod Printed
 pub mod Stands
 pub mod StandsCard
 pub mod StandsEntry

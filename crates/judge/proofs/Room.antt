@@ -12,7 +12,7 @@ use Rattle.rules.specs.Whose.{Whose, partOf}
 use Rattle.rules.specs.Past.{Past, bankAt}
 use Rattle.rules.specs.Form.{Field, bytesOf, Head, cardOf, entryOf}
 use Rattle.rules.specs.File.{FileVerdict, Step, begun}
-use Rattle.rules.specs.Entries.{Entry, whoseOf, partIn, ownFor, read}
+use Rattle.rules.specs.Entries.{Entry, whoseOf, partIn, ownFor}
 use Rattle.rules.specs.Lent.{ownIn, readIn, commandIn}
 use Rattle.rules.specs.Lines.{entryLine}
 use Rattle.rules.proofs.Filtered.{judging-part}
@@ -21,7 +21,7 @@ use Rattle.rules.proofs.FileHeads.{HeadSays, is-whole, is-cut, is-bad-tag, is-b
 use Rattle.bank.specs.Values.{lentOf}
 use Rattle.bank.proofs.Shares.{is-low}
 use Rattle.bank.proofs.Remembered.{bank-low}
-use Rattle.bank.proofs.Changed.{recorded-bank}
+use Rattle.bank.proofs.Changed.{entry-bank}
 use Rattle.chunks.specs.declared.State.{State}
 use Rattle.chunks.specs.declared.Verdict.{Verdict}
 use Rattle.chunks.specs.declared.What.{What}
@@ -60,7 +60,7 @@ module _ {st : State} {fs : List Field} {past : Past} {at : ℕ} (s : Stands st 
       command = commandIn (lentOf (st .rec)) e
 
       bank : bankAt command counter ≤ 7
-      bank = bank-low command counter counter-low (unfold commandIn readIn read in recorded-bank _ _ _ (e .pins))
+      bank = bank-low command counter counter-low (unfold commandIn readIn in entry-bank (lentOf (st .rec) .card) _ e)
 
       whose : Whose
       whose = whoseOf (lentOf (st .rec) .card) e

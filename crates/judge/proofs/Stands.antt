@@ -16,6 +16,7 @@ use Rattle.rules.specs.FileReading.{CardRight}
 use Rattle.rules.specs.Lent.{standing, AllTaken}
 use Rattle.rules.specs.Lent as lent
 use Rattle.rules.proofs.Tests.{some-none}
+use Rattle.rules.proofs.CardRead.{card-good}
 use Rattle.rules.proofs.Rounds.{Rising}
 use Rattle.rules.proofs.Taken.{rising, below-last, unmoved}
 use Rattle.rules.proofs.StepByList.{fresh-stands}
@@ -32,8 +33,8 @@ use Rattle.chunks.specs.declared.State.{State}
 use Rattle.chunks.specs.Took.{wrapped, newest, headAt, headTook, tookOf}
 use Rattle.chunks.specs.Heard.{startOf, headLine, lineOf}
 use Rattle.chunks.proofs.Wraps.{wrapped-is}
-use Rattle.judge.proofs.Overflow.{few, commands-few, refreshes-few}
-use Rattle.judge.proofs.Counts.{none-counted}
+use Rattle.judge.proofs.Overflow.{few, commands-few}
+use Rattle.judge.proofs.Counts.{none-counted, refreshes-few}
 
 pub record Stands (st : State) (fs : List Field) (past : Past) (at : ℕ) : Type 0 where
   pub card : CardRight fs
@@ -113,10 +114,17 @@ module _ {st : State} {fs : List Field} {past : Past} {at : ℕ} (s : Stands st 
       let r : Rising past = rising (cardOf fs) past (s .taken) in
       omega (arith, s .small, few (suc (lastCycle past)) past r (below-last past r))
 
+  counted-few : refreshCount (cardOf fs) past ≤ length past
+  counted-few = go (cardWhole fs) refl
+    where
+      go : (b : Bool) → cardWhole fs ≡ b → refreshCount (cardOf fs) past ≤ length past
+      go true w = refreshes-few (cardOf fs) (card-good fs (s .card) w) past (s .taken)
+      go false w = rw (s .first w) (omega (arith, none-counted (cardOf fs)))
+
   pub far-below : (st .commands ≤ 2 ^ 32) × (st .refreshes ≤ 2 ^ 32) × (st .offset < 2 ^ 36)
   far-below = (
     omega (arith, s .commands, commands-few past, entries-few),
-    omega (arith, s .refreshes, refreshes-few (cardOf fs) past, entries-few),
+    omega (arith, s .refreshes, counted-few, entries-few),
     omega (arith, s .offset, s .near, entries-few, tags-rise fs (s .card), tag-below fs (s .card)),
   )
 

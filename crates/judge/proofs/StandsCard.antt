@@ -11,7 +11,7 @@ use Rattle.rules.specs.Ranges.{within}
 use Rattle.rules.specs.Past.{Past}
 use Rattle.rules.specs.Folds.{orElse, firstOf}
 use Rattle.rules.specs.Checks.{refusal, unless}
-use Rattle.rules.specs.Form.{Field, sizeOf, lastTag, lengthGood, cardWhole, ofTrace, cardOf, fieldGood}
+use Rattle.rules.specs.Form.{Field, sizeOf, lastTag, lengthGood, cardWhole, ofEntry, ofTrace, cardOf, fieldGood}
 use Rattle.rules.specs.File.{begun}
 use Rattle.rules.specs.FileReading.{RightForm, CardRight}
 use Rattle.rules.specs.Lent.{AllTaken}
@@ -50,8 +50,8 @@ module _ {st : State} {fs : List Field} {past : Past} {at : ℕ} (s : Stands st 
   unfolding CardRight
   right g = (form-first, o, g, s .card)
 
-  pub tag-in : f .tag ≤ 25
-  tag-in = ⊎-elim (λ (h : f .tag ≤ 22). omega arith) (λ (h : f .tag ≡ 25). omega arith) (card-tag fs f (s .card) form o .1)
+  pub tag-in : f .tag ≤ 26
+  tag-in = ⊎-elim (λ (h : f .tag ≤ 22). omega arith) (⊎-elim (λ (h : f .tag ≡ 25). omega arith) (λ (h : f .tag ≡ 26). omega arith)) (card-tag fs f (s .card) form o .1)
 
   of-a-card : ofCard (f .tag) ≡ true
   unfolding ofCard within
@@ -59,7 +59,7 @@ module _ {st : State} {fs : List Field} {past : Past} {at : ℕ} (s : Stands st 
       let t = card-tag fs f (s .card) form o in
       ⊎-elim
       (λ (h : f .tag ≤ 22). rw (le-leb 1 (f .tag) (t .0), le-leb (f .tag) 22 h))
-      (λ (h : f .tag ≡ 25). rw (eq-eqb (f .tag) 25 h, or-true))
+      (⊎-elim (λ (h : f .tag ≡ 25). rw (eq-eqb (f .tag) 25 h, or-true)) (λ (h : f .tag ≡ 26). rw (eq-eqb (f .tag) 26 h, or-true)))
       (t .1)
 
   sized : lengthGood (f .tag) (length (f .value)) ≡ true
@@ -73,8 +73,8 @@ module _ {st : State} {fs : List Field} {past : Past} {at : ℕ} (s : Stands st 
   read-is = rw (of-a-card, sized, good-field (st .rec .card) fs f (s .holds), or-none)
 
   pub of-card : fieldTook st f ≡ cardTook st f
-  unfolding fieldTook
-  of-card = rw (ne-eqb (f .tag) 32 (λ e. omega (arith, tag-in)), ne-eqb (f .tag) 33 (λ e. omega (arith, tag-in)))
+  unfolding fieldTook ofEntry
+  of-card = rw (ne-eqb (f .tag) 32 (λ e. omega (arith, tag-in)), ne-eqb (f .tag) 34 (λ e. omega (arith, tag-in)), ne-eqb (f .tag) 33 (λ e. omega (arith, tag-in)))
 
   pub card-refused : fieldGood fs f ≡ false → fieldTook st f ≡ refusedHere st (refusal 4 0 0)
   unfolding cardTook unless

@@ -14,7 +14,7 @@ use Rattle.rules.specs.Account.{lpddr3, Book, ledgerAfter, ledgerOn}
 use Rattle.rules.specs.Clock.{bookOf}
 use Rattle.rules.specs.Verdict.{ledgersAt}
 use Rattle.rules.specs.Checks.{Refusal, endRefusal}
-use Rattle.rules.specs.Form.{Field, sizeOf, cardWhole, cardOf, endOf}
+use Rattle.rules.specs.Form.{Field, sizeOf, ofEntry, cardWhole, cardOf, endOf}
 use Rattle.rules.specs.File.{FileVerdict, acceptedAt, begun}
 use Rattle.rules.specs.FileReading.{RightForm}
 use Rattle.rules.specs.Lent.{Share, Lent, Ledger, closeRefusal, movedOn, standing}
@@ -24,7 +24,7 @@ use Rattle.rules.proofs.Earliest.{ledgers-parts}
 use Rattle.rules.proofs.Taken.{unmoved}
 use Rattle.rules.proofs.StepByList.{ledger-is, moved-stands, close-unmoved, end-reached}
 use Rattle.card.specs.Values as code
-use Rattle.ledger.specs.Values.{ledgerOf, stored, codeOf}
+use Rattle.ledger.specs.Values.{ledgerOf, stored, codeOf, paceOf}
 use Rattle.ledger.proofs.Promises.{stored-is}
 use Rattle.lines.specs.declared.Owed.the-variants.{One, Two}
 use Rattle.lines.specs.Values.{ledgersOf}
@@ -71,11 +71,14 @@ module _ {st : State} {fs : List Field} {past : Past} {at : ℕ} (s : Stands st 
 
   -- a part's ledger at E, of the record and over the list
   abbrev movedTo : (p end : ℕ) → Ledger
-  movedTo p end = movedOn (code.cardOf (rec .card)) (ledgerOf (shareAt rec p .ledger)) end
+  movedTo p end = movedOn (code.cardOf (rec .card)) (paceOf (rec .pace)) (ledgerOf (shareAt rec p .ledger)) end
 
   share-ledger : (p : ℕ) → p < 2 → ledgerOf (shareAt rec p .ledger) ≡ standing (cardOf fs) past unmoved .share p .ledger
   unfolding shareOf
   share-ledger p h = ap (λ (x : Share). x .ledger) (sym (share-in rec p h)) ∙ ap (λ (l : Lent). l .share p .ledger) (s .lent)
+
+  pace-is : paceOf (rec .pace) ≡ standing (cardOf fs) past unmoved .pace
+  pace-is = unfold lentOf in ap (λ (l : Lent). l .pace) (s .lent)
 
   owing-at : (p end : ℕ) → p < 2 → IsPart (cardOf fs) p → endRefusal (cardOf fs) past end ≡ none →
       subℕ (codeOf (movedTo p end) .owed) 8 ≡ ledgerOn (lpddr3 .credit) (bookOf (cardOf fs) (ofPart p past)) end
@@ -84,7 +87,7 @@ module _ {st : State} {fs : List Field} {past : Past} {at : ℕ} (s : Stands st 
       let reached = end-reached (cardOf fs) past (in-range s w) (s .taken) end n p i in
       let there = moved-stands (cardOf fs) past unmoved (in-range s w) (s .taken) (paid s w) p i end reached in
       let here = ledger-is (cardOf fs) past unmoved (in-range s w) (s .taken) (paid s w) p i in
-      rw (s .holds .reads, share-ledger p h, here, there) (unfold lpddr3 in stored-back (bookOf (cardOf fs) (ofPart p past)) end)
+      rw (s .holds .reads, pace-is, share-ledger p h, here, there) (unfold lpddr3 in stored-back (bookOf (cardOf fs) (ofPart p past)) end)
 
   paired-is : rec .card .paired ≡ cardOf fs .paired
   paired-is = unfold code.cardOf in ap (λ (c : rules.Card). c .paired) (s .holds .reads)
@@ -107,8 +110,8 @@ module _ {st : State} {fs : List Field} {past : Past} {at : ℕ} (s : Stands st 
 
   module _ (f : Field) (form : RightForm (begun past) fs f) (t : f .tag ≡ 33) where
     pub of-end : fieldTook st f ≡ endTook st f
-    unfolding fieldTook
-    of-end = rw (ne-eqb (f .tag) 32 (λ e. omega arith), eq-eqb (f .tag) 33 t)
+    unfolding fieldTook ofEntry
+    of-end = rw (ne-eqb (f .tag) 32 (λ e. omega arith), ne-eqb (f .tag) 34 (λ e. omega arith), eq-eqb (f .tag) 33 t)
 
     pub end-refused : (x : Refusal) → endRefusal (cardOf fs) past (endOf f) ≡ some x → fieldTook st f ≡ refusedHere st x
     unfolding endTook

@@ -5,7 +5,6 @@ use mathlib.Core.Bool.{Bool, true, false, cond}
 use mathlib.Core.List.{List, _++_}
 use mathlib.Core.Option.{none, some}
 use native.Mathlib.Omega.{arith}
-use borrow.Author.Tests.{eq-eqb}
 use Rattle.rules.specs.Ranges.{cardGood}
 use Rattle.rules.specs.Commands.{NOP, is}
 use Rattle.rules.specs.Card.{Card}
@@ -13,7 +12,7 @@ use Rattle.rules.specs.Past.{Past, lastCycle, counterAt, commandCount}
 use Rattle.rules.specs.Verdict.{refreshCount}
 use Rattle.rules.specs.Entries.{Entry, read, whoseOf, partIn, readAfter, recordedAs, taken, ownFor, takenFor, pastWith}
 use Rattle.rules.specs.Checks.{Refusal, entryRefusal}
-use Rattle.rules.specs.Form.{Field, bytesOf, sizeOf, cardWhole, cardOf, entryOf}
+use Rattle.rules.specs.Form.{Field, bytesOf, sizeOf, ofEntry, cardWhole, cardOf, entryOf}
 use Rattle.rules.specs.File.{begun}
 use Rattle.rules.specs.FileReading.{RightForm}
 use Rattle.rules.specs.Lent as lent
@@ -35,8 +34,9 @@ use Rattle.chunks.specs.Took.{tookAs, wrapped, refusedHere, entryAfter, entryRe
 use Rattle.chunks.specs.Heard.{fieldLine}
 use Rattle.chunks.proofs.Bytes.{Bytes}
 use Rattle.chunks.proofs.Wraps.{wrapped-is}
-use Rattle.judge.proofs.Overflow.{stamp-small, size-small}
+use Rattle.judge.proofs.Overflow.{stamp-small, entry-tag, size-small}
 use Rattle.judge.proofs.Counts.{countedNow, counted-next}
+use Rattle.judge.proofs.Printed.{printed}
 use Rattle.judge.proofs.Stands.{Stands, far-below, offset-behind}
 
 -- ---- the counts
@@ -92,10 +92,10 @@ module _ {st : State} {fs : List Field} {past : Past} {at : ℕ} (s : Stands st 
   unfolding entryRefused
   refused-by f = rw (s .lent) (step-unmoved (cardOf fs) past in-range (s .taken) (entryOf f))
 
-  module _ (f : Field) (form : RightForm (begun past) fs f) (t : f .tag ≡ 32) where
+  module _ (f : Field) (form : RightForm (begun past) fs f) (t : ofEntry (f .tag) ≡ true) where
     pub of-entry : fieldTook st f ≡ entryTook st f
     unfolding fieldTook
-    of-entry = rw (eq-eqb (f .tag) 32 t)
+    of-entry = rw t
 
     pub entry-refused : (x : Refusal) → entryRefusal (cardOf fs) past (entryOf f) ≡ some x → fieldTook st f ≡ refusedHere st x
     unfolding entryTook
@@ -137,12 +137,14 @@ module _ {st : State} {fs : List Field} {past : Past} {at : ℕ} (s : Stands st 
 
       pub entry-line : entryLines (pastWith (cardOf fs) past (entryOf f)) ≡ entryLines past ++ fieldLine st f
       unfolding entryLines fieldLine pastWith takenFor taken ownFor partIn commandIn
-      entry-line = rw (eq-eqb (f .tag) 32 t, read-as s (entryOf f), whose-is s (entryOf f), counter-is s (entryOf f))
+      entry-line =
+          rw (read-as s (entryOf f), whose-is s (entryOf f), counter-is s (entryOf f))
+          (ap (λ (line : List ℕ). entryLines past ++ line) (printed (cardOf fs) past f t n _))
 
       pub entry-stands : Bytes (bytesOf f) → Stands (entryAfter st f) fs (pastWith (cardOf fs) past (entryOf f)) (at + sizeOf f)
       unfolding entryAfter lastCycle
       entry-stands b =
-          let size : sizeOf f ≤ 10 = size-small fs f form (omega arith) in
+          let size : sizeOf f ≤ 10 = size-small fs f form (omega (arith, entry-tag (f .tag) t)) in
           record {
             card = s .card;
             tag = s .tag;

@@ -12,14 +12,11 @@ use Rattle.rules.specs.Card.{Card}
 use Rattle.rules.specs.Folds.{orElse, firstOf}
 use Rattle.rules.specs.Checks.{Refusal, refusal, unless}
 use Rattle.rules.specs.Ranges.{cardGood}
-use Rattle.rules.specs.Account.{every}
-use Rattle.rules.specs.Clock.{beatOf}
 use Rattle.rules.specs.Lent.{Ledger, numberOf, sinceGood, ledgerGood}
 use Rattle.rules.proofs.Tests.{le-cases, both-true}
-use Rattle.rules.proofs.Rounding.{interval-positive}
 use Rattle.rules.proofs.Taken.{owing-biased}
 use Rattle.ledger.specs.Values.{ledgerOf}
-use Rattle.ledger.specs.Parts.{Near, admitted}
+use Rattle.ledger.specs.Parts.{admitted}
 use Rattle.ledger.specs.declared.Ledger as code
 
 module _ (card : Card) (g : Ledger) (t : ℕ) where
@@ -87,7 +84,6 @@ module _ (card : Card) (g : code.Ledger) where
   pub record Sound : Type 0 where
     pub good : ledgerGood card (ledgerOf g) ≡ true
     pub range : cardGood card ≡ true
-    pub near : (n : ℕ) → Near (beatOf card) n
     pub low : g .owed ≤ 16
     pub since : g .since ≤ numberOf (ledgerOf g)
 
@@ -99,7 +95,6 @@ module _ (card : Card) (g : code.Ledger) where
       record {
         good = e;
         range = b .0;
-        near = λ n. record { some = unfold beatOf every in interval-positive card (b .0); next = unfold beatOf every in omega arith };
         low = leb-true (g .owed) 16 (sym (owing-biased (g .owed)) ∙ b .1);
         since = leb-true _ _ (a .1);
       }

@@ -11,11 +11,11 @@ use lib.IntN.{subℕ}
 use borrow.Author.Tests.{le-leb}
 use Rattle.rules.specs.Levels.{stopped}
 use Rattle.rules.specs.Account.{lpddr3, Beat, fallen, nextAfter, steady, failing, idle, firstIdle}
-use Rattle.rules.specs.Clock.{beatOf}
-use Rattle.rules.specs.Lent.{numberOf, sinceGood, ledgerGood, countedTo, ledgerTo, failingTo, failingOf}
+use Rattle.rules.specs.Lent.{numberOf, beatOf, sinceGood, ledgerGood, countedTo, ledgerTo, failingTo, failingOf}
 use Rattle.rules.proofs.Tests.{lt-cases}
 use Rattle.rules.proofs.Decided.{orElse-none}
 use Rattle.rules.proofs.Idle.{owedAt, idle-beat}
+use Rattle.rules.proofs.Beats.{interval-least}
 use Rattle.rules.proofs.Clocked.{relabel}
 use Rattle.rules.proofs.Closed.{failing-through}
 use Rattle.rules.proofs.Ledgers.{number-to}
@@ -24,8 +24,8 @@ use Rattle.card.specs.Values.{cardOf}
 use Rattle.card.specs.declared.Card.{Card}
 use Rattle.pins.specs.Values.{levelOf}
 use Rattle.ledger.specs.declared.Ledger.{Ledger}
-use Rattle.ledger.specs.Values.{ledgerOf, stored, codeOf, overAt, lateAt, closedAt, deadlineBy, deadlineOf}
-use Rattle.ledger.specs.Parts.{IdleArgs}
+use Rattle.ledger.specs.declared.Pace.{Pace}
+use Rattle.ledger.specs.Values.{ledgerOf, paceOf, stored, codeOf, overAt, lateAt, closedAt, deadlineBy, deadlineOf}
 use Rattle.ledger.proofs.Admission.{Sound, sound-when}
 use Rattle.ledger.proofs.Closing.{closed-ahead, past-le, within, none-yet, fails-there}
 use Rattle.ledger.proofs.Promises.{stored-is, level-is}
@@ -43,9 +43,13 @@ pub by-so : (b : Beat) (g : Ledger) (n x : ℕ) → n ≡ numberOf (ledgerOf g) 
 unfolding deadlineBy
 by-so b g n x en ex = rw (ex, en)
 
-module _ (card : Card) (g : Ledger) where
+module _ (card : Card) (pace : Pace) (g : Ledger) where
   abbrev b : Beat
-  b = beatOf (cardOf card)
+  b = beatOf (cardOf card) (paceOf pace)
+
+  spanned : 0 < b .span
+  unfolding beatOf paceOf
+  spanned = interval-least (cardOf card) (pace .mr4)
 
   abbrev n : ℕ
   n = numberOf (ledgerOf g)
@@ -60,15 +64,15 @@ module _ (card : Card) (g : Ledger) where
   halted = stopped (levelOf (g .level))
 
   -- as the code finds the deadline
-  pub not-sound : good ≡ false → 0 ≡ deadlineOf card g
+  pub not-sound : good ≡ false → 0 ≡ deadlineOf card pace g
   unfolding deadlineOf
   not-sound e = rw e
 
-  pub not-running : good ≡ true → halted ≡ true → 0 ≡ deadlineOf card g
+  pub not-running : good ≡ true → halted ≡ true → 0 ≡ deadlineOf card pace g
   unfolding deadlineOf
   not-running e h = rw (e, h)
 
-  pub running : good ≡ true → halted ≡ false → deadlineBy b g ≡ deadlineOf card g
+  pub running : good ≡ true → halted ≡ false → deadlineBy b g ≡ deadlineOf card pace g
   unfolding deadlineOf
   running e h = rw (e, h)
 
@@ -83,13 +87,13 @@ module _ (card : Card) (g : Ledger) where
     s = sound-when (cardOf card) g ok
 
     ahead : n < closed
-    ahead = closed-ahead b n (g .owed) (g .since) (s .near n .some)
+    ahead = closed-ahead b n (g .owed) (g .since) spanned
 
-    is : deadlineOf card g ≡ g .at + (closed - n)
+    is : deadlineOf card pace g ≡ g .at + (closed - n)
     is = sym (running ok runs) ∙ (unfold deadlineBy in refl)
 
-    args : (t : ℕ) → IdleArgs b n (g .owed) (n + (t - g .at))
-    args t = record { near = s .near n; low = s .low; later = omega arith }
+    from : (t : ℕ) → n ≤ n + (t - g .at)
+    from t = omega arith
 
     through : (t : ℕ) → failingTo b (ledgerOf g) (suc t)
         ≡ relabel (λ m. g .at + (m - n)) (firstIdle lpddr3 (steady b) (subℕ (g .owed) 8) (g .since) n n (n + (t - g .at) - n))
@@ -98,16 +102,16 @@ module _ (card : Card) (g : Ledger) where
         let z : n + (t - g .at) - n ≡ t - g .at = omega arith in
         rw z (rw (counts runs t) at (failing-through b (ledgerOf g) t))
 
-    none-until : (t : ℕ) → t < deadlineOf card g → failingTo b (ledgerOf g) (suc t) ≡ none
+    none-until : (t : ℕ) → t < deadlineOf card pace g → failingTo b (ledgerOf g) (suc t) ≡ none
     none-until t h =
         let l : n + (t - g .at) < closed = omega (arith, is, ahead) in
-        through t ∙ rw (none-yet b n (g .owed) (n + (t - g .at)) (args t) (g .since) l) (unfold relabel in refl)
+        through t ∙ rw (none-yet b n (g .owed) (n + (t - g .at)) spanned (s .low) (from t) (g .since) l) (unfold relabel in refl)
 
     not-yet : (t : ℕ) → t ≤ g .at → failingTo b (ledgerOf g) t ≡ none
     unfolding failingTo ledgerOf firstIdle
     not-yet t h = let z : t - suc (g .at) ≡ 0 = omega arith in rw (z, runs)
 
-    pub none-before : (t : ℕ) → t ≤ deadlineOf card g → failingTo b (ledgerOf g) t ≡ none
+    pub none-before : (t : ℕ) → t ≤ deadlineOf card pace g → failingTo b (ledgerOf g) t ≡ none
     none-before t h = ⊎-elim
         (λ (p : (g .at < t) × (ltb (g .at) t ≡ true)).
         let u : suc (t - 1) ≡ t = omega arith in
@@ -115,12 +119,12 @@ module _ (card : Card) (g : Ledger) where
         (λ (p : (t ≤ g .at) × (ltb (g .at) t ≡ false)). not-yet t (p .0))
         (lt-cases (g .at) t)
 
-    pub one-there : failingTo b (ledgerOf g) (suc (deadlineOf card g))
-        ≡ some (cond (leb (overAt b n (g .owed)) (lateAt (b .span) n (g .since))) 19 20, deadlineOf card g)
+    pub one-there : failingTo b (ledgerOf g) (suc (deadlineOf card pace g))
+        ≡ some (cond (leb (overAt b n (g .owed)) (lateAt (b .span) n (g .since))) 19 20, deadlineOf card pace g)
     one-there =
         let z : n + (g .at + (closed - n) - g .at) ≡ closed = omega (arith, ahead) in
         let f : firstIdle lpddr3 (steady b) (subℕ (g .owed) 8) (g .since) n n (closed - n) ≡ some (cond (leb (overAt b n (g .owed)) (lateAt (b .span) n (g .since))) 19 20, closed) =
-        fails-there b n (g .owed) closed (record { near = s .near n; low = s .low; later = omega (arith, ahead) }) (g .since) (omega arith) in
+        fails-there b n (g .owed) closed spanned (s .low) (omega (arith, ahead)) (g .since) (omega arith) in
         rw is (through (g .at + (closed - n)) ∙ rw (z, f) (unfold relabel in refl))
 
   -- 19 and 20 where it comes to stand
@@ -130,7 +134,7 @@ module _ (card : Card) (g : Ledger) where
   here-is t later = rw (number-to b (ledgerOf g) t (unfold ledgerOf in later)) (unfold ledgerTo ledgerOf in refl)
 
   -- ---- before the deadline
-  module _ (t : ℕ) (later : g .at ≤ t) (early : t < deadlineOf card g) where
+  module _ (t : ℕ) (later : g .at ≤ t) (early : t < deadlineOf card pace g) where
     parts : (good ≡ true) × (halted ≡ false) × (t < deadlineBy b g)
     unfolding deadlineOf
     parts = below good halted (deadlineBy b g) t early
@@ -165,10 +169,10 @@ module _ (card : Card) (g : Ledger) where
     owed = g .owed + (fallen b m - fallen b n)
 
     rise : fallen b n ≤ fallen b m
-    rise = past-le b n (g .owed) m (args (parts .0) (parts .1) t)
+    rise = past-le b n (g .owed) m spanned (sound .low) (omega arith)
 
     still : owed ≤ 16
-    still = within b n (g .owed) m (args (parts .0) (parts .1) t) (omega (arith, before))
+    still = within b n (g .owed) m spanned (sound .low) (omega arith) (omega (arith, before))
 
     -- its numbers then
     abbrev there : Ledger
@@ -184,7 +188,7 @@ module _ (card : Card) (g : Ledger) where
         owing : stored (idle 8 (steady b) (subℕ (g .owed) 8) (numberOf (ledgerOf g)) (countedTo (ledgerOf g) t)) ≡ owed
         owing =
             let e : owedAt b n (g .owed) (n + countedTo (ledgerOf g) t) ≡ owed = unfold owedAt in rw number in
-            ap stored (idle-beat b (sound .near n .some) 8 (g .owed) n (countedTo (ledgerOf g) t)) ∙ stored-is (owedAt b n (g .owed) (n + countedTo (ledgerOf g) t)) ∙ e
+            ap stored (idle-beat b spanned 8 (g .owed) n (countedTo (ledgerOf g) t)) ∙ stored-is (owedAt b n (g .owed) (n + countedTo (ledgerOf g) t)) ∙ e
 
     number-there : numberOf (ledgerOf there) ≡ m
     unfolding numberOf ledgerOf
@@ -203,8 +207,8 @@ module _ (card : Card) (g : Ledger) where
     closed-there : closedAt b m owed (g .since) ≡ closed
     closed-there = rw over-there (omega (arith, before))
 
-    pub same-deadline : deadlineOf card (codeOf (ledgerTo b (ledgerOf g) t)) ≡ deadlineOf card g
+    pub same-deadline : deadlineOf card pace (codeOf (ledgerTo b (ledgerOf g) t)) ≡ deadlineOf card pace g
     same-deadline =
         let x : deadlineBy b there ≡ t + (closed - m) = unfold deadlineBy in rw (number-there, closed-there) in
-        let y : deadlineOf card there ≡ deadlineBy b there = unfold deadlineOf in rw (good-there, parts .1) in
-        ap (deadlineOf card) reaches ∙ y ∙ x ∙ omega (arith, before, later, is (parts .0) (parts .1))
+        let y : deadlineOf card pace there ≡ deadlineBy b there = unfold deadlineOf in rw (good-there, parts .1) in
+        ap (deadlineOf card pace) reaches ∙ y ∙ x ∙ omega (arith, before, later, is (parts .0) (parts .1))

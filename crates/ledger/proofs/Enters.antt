@@ -1,27 +1,27 @@
 -- An entry's own cycle, as its promise says it.
 use Prim.Native.Nat.{ℕ, suc, _+_, _-_, _*_, _≤_, _<_}
 use mathlib.Core.Path.{_≡_, refl, ap, sym, _∙_, subst}
-use mathlib.Core.Bool.{Bool, true, false, cond, not, _&&_}
+use mathlib.Core.Bool.{Bool, true, false, cond, not, _&&_, _||_}
 use mathlib.Core.Option.{Option, none, some}
 use native.Mathlib.Omega.{arith}
 use lib.IntN.{subℕ}
 use borrow.Author.Tests.{le-leb, lt-leb}
-use Rattle.rules.specs.Levels.{stopped}
-use Rattle.rules.specs.Account.{lpddr3, Beat, onBeat, steady, takeOne, idle}
+use Rattle.rules.specs.Levels.{stopped, levelAfter}
+use Rattle.rules.specs.Levels as levels
+use Rattle.rules.specs.Account.{lpddr3, Beat, onBeat, steady, idle}
 use Rattle.rules.specs.Checks.{Refusal, refusal, named}
-use Rattle.rules.specs.Lent.{numberOf, countedTo, ledgerTo, refreshedAt, atLevel, failingTo, failingOf}
+use Rattle.rules.specs.Lent.{numberOf, countedTo, ledgerTo, refreshedAt, sensedAt, atLevel, failingTo, failingOf}
 use Rattle.rules.specs.Lent as lent
 use Rattle.rules.proofs.Biased.{due, take-biased, cycle-biased, owing, failing-biased}
-use Rattle.rules.proofs.Ledgers.{number-to, none-failing-there, none-failing-below, moved-twice}
-use Rattle.pins.specs.Values.{levelOf}
+use Rattle.rules.proofs.Ledgers.{none-failing-there, none-failing-below, moved-twice}
+use Rattle.pins.specs.Values.{levelOf, movedOf}
 use Rattle.pins.specs.declared.Level.{Level}
 use Rattle.ledger.specs.declared.Ledger.{Ledger}
 use Rattle.ledger.specs.declared.Effect.{Effect}
 use Rattle.ledger.specs.declared.Answer.the-variants.{Done}
 use Rattle.ledger.specs.declared.After.{After}
-use Rattle.ledger.specs.Values.{ledgerOf, refusalOf, isNone, unlessRefused, Left}
-use Rattle.ledger.specs.Parts.{Near, NextArgs, dueNext, shifted}
-use Rattle.ledger.proofs.Closing.{near-on}
+use Rattle.ledger.specs.Values.{ledgerOf, effectOf, refusalOf, isNone, unlessRefused, Left}
+use Rattle.ledger.specs.Parts.{NextArgs, dueNext, shifted, changedBy}
 
 -- what an answer that is a refusal, and one that is none, says of the promise
 pub refused-left : (o : Option Refusal) (old new : lent.Ledger) (r : After) → Left o old new r → isNone (refusalOf (r .answer)) ≡ false →
@@ -112,9 +112,6 @@ module _ (g : Ledger) (b : Beat) (s : ℕ) (r : After) (l : Through g b s r) (t 
       later′ : ledgerOf g .at ≤ s
       later′ = unfold ledgerOf in later
 
-      pub near-before : Near b (numberOf (ledgerOf g)) → Near b (numberOf (ledgerOf (r .ledger)))
-      near-before a = rw (stood-left _ _ _ r l n .1, number-to b (ledgerOf g) s later′) (near-on b _ _ a (omega arith))
-
       pub comes-there : (h : Ledger) → ledgerOf h ≡ ledgerTo b (ledgerOf (r .ledger)) t → AtStamp g b t (record { ledger = h; answer = Done })
       unfolding named refusalOf unlessRefused
       comes-there h e =
@@ -125,21 +122,34 @@ module _ (g : Ledger) (b : Beat) (s : ℕ) (r : After) (l : Through g b s r) (t 
           record { told = sym z; ledger = rw z w }
 
 -- ---- what an entry does there
-takes : (g : Ledger) (v : Level) (n x : ℕ) → n ≡ numberOf (ledgerOf g) → x ≡ g .owed - 1 →
-    ledgerOf (record { at = g .at; owed = x; since = n; skipped = g .skipped; level = v }) ≡ atLevel (levelOf v) (refreshedAt true (ledgerOf g))
-unfolding ledgerOf refreshedAt atLevel lpddr3
-takes g v n x w e =
-    let c : subℕ x 8 ≡ takeOne 8 (subℕ (g .owed) 8) = rw e (sym (take-biased 8 (g .owed))) in
-    λ i. record { at = g .at; owing = c i; since = w i; skipped = g .skipped; level = levelOf v }
+changes : (c s : Bool) (v : levels.Level) (g : Ledger) → atLevel v (sensedAt s (refreshedAt c (ledgerOf g)))
+    ≡ record { at = g .at; owing = subℕ (cond c (g .owed - 1) (g .owed)) 8; since = cond (c || s) (numberOf (ledgerOf g)) (g .since); skipped = g .skipped; level = v }
+unfolding atLevel sensedAt refreshedAt numberOf ledgerOf lpddr3
+changes true true v g = rw (take-biased 8 (g .owed))
+changes true false v g = rw (take-biased 8 (g .owed))
+changes false true v g = refl
+changes false false v g = refl
 
-pub takes-one : (g : Ledger) (x : Effect) (n o : ℕ) → x .counted ≡ true → n ≡ numberOf (ledgerOf g) → o ≡ g .owed - 1 →
-    ledgerOf (record { at = g .at; owed = o; since = n; skipped = g .skipped; level = x .level }) ≡ atLevel (levelOf (x .level)) (refreshedAt (x .counted) (ledgerOf g))
-takes-one g x n o t w e = rw t (takes g (x .level) n o w e)
+-- as the code finds it
+pub changed-so : (g : Ledger) (x : Effect) (o s : ℕ) (v : Level) → o ≡ cond (x .counted) (g .owed - 1) (g .owed) →
+    s ≡ cond (x .counted || x .sensed) (numberOf (ledgerOf g)) (g .since) → levelOf v ≡ levelAfter (movedOf (x .moved)) (levelOf (g .level)) →
+    ledgerOf (record { at = g .at; owed = o; since = s; skipped = g .skipped; level = v }) ≡ changedBy (effectOf x) (ledgerOf g)
+changed-so g x o s v eo es ev = came ∙ sym (unfold changedBy effectOf ledgerOf in changes (x .counted) (x .sensed) (levelAfter (movedOf (x .moved)) (levelOf (g .level))) g)
+  where
+    came : ledgerOf (record { at = g .at; owed = o; since = s; skipped = g .skipped; level = v })
+        ≡ record {
+          at = g .at;
+          owing = subℕ (cond (x .counted) (g .owed - 1) (g .owed)) 8;
+          since = cond (x .counted || x .sensed) (numberOf (ledgerOf g)) (g .since);
+          skipped = g .skipped;
+          level = levelAfter (movedOf (x .moved)) (levelOf (g .level));
+        }
+    came = unfold ledgerOf in λ i. record { at = g .at; owing = subℕ (eo i) 8; since = es i; skipped = g .skipped; level = ev i }
 
-pub takes-none : (g : Ledger) (x : Effect) → x .counted ≡ false →
-    ledgerOf (record { at = g .at; owed = g .owed; since = g .since; skipped = g .skipped; level = x .level }) ≡ atLevel (levelOf (x .level)) (refreshedAt (x .counted) (ledgerOf g))
-unfolding refreshedAt atLevel ledgerOf
-takes-none g x e = rw e
+-- an entry's own cycle, where the ledger came to it
+pub entered-there : (x : lent.Effect) (b : Beat) (g : lent.Ledger) (t : ℕ) → changedBy x (ledgerTo b g t) ≡ lent.entered x b g t
+unfolding changedBy lent.entered ledgerTo
+entered-there x b g t = refl
 
 -- ---- 19 and 20
 module _ (h : Ledger) (b : Beat) where

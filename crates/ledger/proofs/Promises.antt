@@ -15,14 +15,17 @@ use Rattle.pins.specs.Values.{levelOf}
 use Rattle.pins.specs.declared.Level.{Level}
 use Rattle.pins.specs.declared.Level.the-variants.{Awake, PowerDown, SelfRefresh, Deep}
 use Rattle.ledger.specs.declared.Ledger.{Ledger}
+use Rattle.ledger.specs.declared.Pace.{Pace}
 use Rattle.ledger.specs.declared.Answer.{Answer}
 use Rattle.ledger.specs.declared.Answer.the-variants.{Done, BadRecord, Earlier, Overdue}
 use Rattle.ledger.specs.declared.After.{After}
-use Rattle.ledger.specs.Values.{ledgerOf, stored, levelIn, codeOf, refusalOf, Left}
+use Rattle.ledger.specs.Values.{ledgerOf, paceOf, stored, levelIn, codeOf, paceIn, refusalOf, Left}
 use Rattle.ledger.proofs.calls.moved as moved
 use Rattle.ledger.proofs.calls.entered as entered
 use Rattle.ledger.proofs.calls.deadline as deadline
 use Rattle.ledger.proofs.moving.number_of as number-of
+use Rattle.ledger.proofs.pacing.first_pace as first-pace
+use Rattle.ledger.proofs.pacing.respaced as respaced
 use Rattle.ledger.proofs.move_on as move-on
 
 -- the case that has these numbers
@@ -55,6 +58,10 @@ pub code-is : (g : Ledger) → codeOf (ledgerOf g) ≡ g
 unfolding ledgerOf codeOf
 code-is g = λ i. record { at = g .at; owed = stored-is (g .owed) i; since = g .since; skipped = g .skipped; level = level-is (g .level) i }
 
+pub pace-is : (p : Pace) → paceIn (paceOf p) ≡ p
+unfolding paceOf paceIn
+pace-is p = refl
+
 -- two that are told and left so are one
 pub one-left : (o : Option Refusal) (old new : lent.Ledger) (r s : After) → Left o old new r → Left o old new s → r ≡ s
 one-left o old new r s p q =
@@ -86,10 +93,22 @@ number-of-says w = number-of.clauses (w .𝓤) (w .H) (w .𝓖 .A) (w .𝓜 .mem
 pub number-of-determined : Determined number-of.ended number-of-says
 number-of-determined = determined number-of.ended number-of-says (λ κs a r e. fact-of _) (λ κs a r r′ ws ws′ p p′. (p ∙ sym p′, refl))
 
+abbrev first-pace-says : Promise first-pace.ended
+first-pace-says w = first-pace.clauses (w .𝓤) (w .H) (w .𝓖 .A) (w .𝓜 .mem) (w .𝓡 .run)
+
+pub first-pace-determined : Determined first-pace.ended first-pace-says
+first-pace-determined = determined first-pace.ended first-pace-says (λ κs a r e. fact-of _) (λ κs a r r′ ws ws′ p p′. (tells paceOf paceIn pace-is r r′ p p′, refl))
+
+abbrev respaced-says : Promise respaced.ended
+respaced-says w = respaced.clauses (w .𝓤) (w .H) (w .𝓖 .A) (w .𝓜 .mem) (w .𝓡 .run)
+
+pub respaced-determined : Determined respaced.ended respaced-says
+respaced-determined = determined respaced.ended respaced-says (λ κs a r e. fact-of _) (λ κs a r r′ ws ws′ p p′. (tells paceOf paceIn pace-is r r′ p p′, refl))
+
 abbrev move-on-says : Promise move-on.ended
 move-on-says w = move-on.clauses (w .𝓤) (w .H) (w .𝓖 .A) (w .𝓜 .mem) (w .𝓡 .run)
 
 pub move-on-determined : Determined move-on.ended move-on-says
 move-on-determined =
     determined move-on.ended move-on-says (λ κs a r e. fact-of _)
-    (λ κs a r r′ ws ws′ p p′. let e = one-left _ _ _ _ _ p p′ in (ap (λ (x : After). x .answer) e, λ i. (e i .ledger, (tt, (tt, tt)))))
+    (λ κs a r r′ ws ws′ p p′. let e = one-left _ _ _ _ _ p p′ in (ap (λ (x : After). x .answer) e, λ i. (e i .ledger, (tt, (tt, (tt, tt))))))

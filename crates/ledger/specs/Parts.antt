@@ -7,27 +7,32 @@ use mathlib.Core.Bool.{Bool, true, false, cond, not, _&&_}
 use lib.Dec.{leb}
 use lib.IntN.{ℤ, subℕ}
 use Rattle.rules.specs.Card.{Card}
-use Rattle.rules.specs.Levels.{stopped}
+use Rattle.rules.specs.Levels.{stopped, levelAfter}
 use Rattle.rules.specs.Folds.{orElse, firstOf}
 use Rattle.rules.specs.Account.{lpddr3, steady, onBeat, idle, firstIdle}
 use Rattle.rules.specs.Account as paper
-use Rattle.rules.specs.Clock.{beatOf}
 use Rattle.rules.specs.Checks.{Refusal, unless, named}
 use Rattle.rules.specs.Lent as lent
 use Rattle.ledger.specs.declared.Ledger.{Ledger}
 use Rattle.ledger.specs.declared.After.{After}
 use Rattle.ledger.specs.declared.account.Beat.{Beat}
+use Rattle.ledger.specs.declared.account.First.{First}
 use Rattle.ledger.specs.declared.account.Idle.{Idle}
 use Rattle.ledger.specs.declared.account.Idle.the-variants.{Stands, Breaks}
-use Rattle.ledger.specs.Values.{ledgerOf, Left}
+use Rattle.ledger.specs.Values.{ledgerOf, overAt, lateAt, closedAt, Left}
 
 unfoldable pub beatAs : Beat → paper.Beat
 beatAs b = record { next = b .next; span = b .span }
 
--- the next due is at most a span after number n
-pub record Near (b : paper.Beat) (n : ℕ) : Type 0 where
+-- what the closed forms ask of a beat, whatever its next due: some span, in fewer bits than it is stored in
+pub record Spaced (b : paper.Beat) : Type 0 where
   pub some : 0 < b .span
-  pub next : b .next ≤ n + b .span
+  pub small : b .span < 2 ^ 36
+
+-- the dues of a card at a pace
+pub record Paced (card : Card) (p : lent.Pace) (r : Beat) : Type 0 where
+  pub is : beatAs r ≡ lent.beatOf card p
+  pub spaced : Spaced (lent.beatOf card p)
 
 -- the ledger after idle time, or the rule that fails first with its number
 pub data Outcome : Type 0 where
@@ -46,14 +51,21 @@ idleOf (Breaks q t) = breaks q t
 unfoldable pub idleTo : paper.Beat → (n owed since j : ℕ) → Outcome
 idleTo b n owed since j = outcome (idle 8 (steady b) (subℕ owed 8) n j) (firstIdle lpddr3 (steady b) (subℕ owed 8) since n n j)
 
--- the first number that fails, in fewer bits than it is stored in
-pub record ClosedAs (x r : ℕ) : Type 0 where
-  pub is : r ≡ x
-  pub small : r < 2 ^ 40
+-- what is asked where the dues up to the limit are added to the next one
+pub record OverArgs (b : paper.Beat) (owed : ℕ) : Type 0 where
+  pub spaced : Spaced b
+  pub low : owed ≤ 16
+  pub next : b .next < 2 ^ 40
+
+-- the first number that fails, in fewer bits than it is stored in, and its rule
+pub record FirstAs (b : paper.Beat) (n owed since : ℕ) (r : First) : Type 0 where
+  pub rule-is : r .rule ≡ cond (leb (overAt b n owed) (lateAt (b .span) n since)) 19 20
+  pub number-is : r .number ≡ closedAt b n owed since
+  pub small : r .number < 2 ^ 40
 
 -- what the closed form asks
 pub record IdleArgs (b : paper.Beat) (n owed to : ℕ) : Type 0 where
-  pub near : Near b n
+  pub spaced : Spaced b
   pub low : owed ≤ 16
   pub later : n ≤ to
 
@@ -77,9 +89,9 @@ shifted g to owed = record {
   level = g .level;
 }
 
--- a sound ledger, a beat whose next due is near, and a cycle from its own on
+-- a sound ledger, and a cycle from its own on
 pub record ReachArgs (g : Ledger) (b : paper.Beat) (to : ℕ) : Type 0 where
-  pub near : Near b (lent.numberOf (ledgerOf g))
+  pub spaced : Spaced b
   pub low : g .owed ≤ 16
   pub later : g .at ≤ to
 
@@ -90,13 +102,17 @@ pub record Reached (g : Ledger) (b : paper.Beat) (to : ℕ) (r : After) : Type 0
 
 -- a ledger as after the cycle before t
 pub record NextArgs (g : Ledger) (b : paper.Beat) (t : ℕ) : Type 0 where
-  pub near : Near b (lent.numberOf (ledgerOf g))
+  pub spaced : Spaced b
   pub low : g .owed ≤ 16
   pub next : suc (g .at) ≡ t
 
 -- whether the next cycle counts and a due is there
 unfoldable pub dueNext : paper.Beat → lent.Ledger → Bool
 dueNext b g = not (stopped (g .level)) && onBeat b (suc (lent.numberOf g))
+
+-- what an entry does where the ledger stands
+unfoldable pub changedBy : lent.Effect → lent.Ledger → lent.Ledger
+changedBy x g = lent.atLevel (levelAfter (x .move) (g .level)) (lent.sensedAt (x .sensed) (lent.refreshedAt (x .counted) g))
 
 -- 19 and 20, and the ledger then: through the cycle t of an entry, or through idle time up to t
 unfoldable pub newOf : (entry : Bool) → lent.Effect → paper.Beat → lent.Ledger → ℕ → lent.Ledger
@@ -111,6 +127,6 @@ accountOf false x b g t = named 11 (lent.failingTo b g (suc t))
 unfoldable pub admitted : Card → lent.Ledger → ℕ → ℕ
 admitted card g t = cond (lent.ledgerGood card g) (cond (leb (g .at) t) 0 5) 13
 
-unfoldable pub askedOf : (entry : Bool) → lent.Effect → Card → lent.Ledger → ℕ → Option Refusal
-askedOf entry x card g t =
-    firstOf (unless (lent.ledgerGood card g) 13 ∷ unless (leb (g .at) t) 5 ∷ accountOf entry x (beatOf card) g t ∷ [])
+unfoldable pub askedOf : (entry : Bool) → lent.Effect → Card → lent.Pace → lent.Ledger → ℕ → Option Refusal
+askedOf entry x card p g t =
+    firstOf (unless (lent.ledgerGood card g) 13 ∷ unless (leb (g .at) t) 5 ∷ accountOf entry x (lent.beatOf card p) g t ∷ [])

@@ -8,15 +8,15 @@ use Rattle.rules.specs.Checks.{Refusal, refusal}
 use Rattle.rules.specs.Levels.{stopped}
 use Rattle.rules.specs.Levels as levels
 use Rattle.rules.specs.Account.{Beat, nextAfter}
-use Rattle.rules.specs.Clock.{beatOf}
-use Rattle.rules.specs.Lent.{numberOf, ledgerGood}
+use Rattle.rules.specs.Lent.{numberOf, beatOf, ledgerGood}
 use Rattle.rules.specs.Lent as lent
 use Rattle.card.specs.Values.{cardOf}
 use Rattle.card.specs.declared.Card.{Card}
-use Rattle.pins.specs.Values.{levelOf}
+use Rattle.pins.specs.Values.{levelOf, movedOf}
 use Rattle.pins.specs.declared.Level.{Level}
 use Rattle.pins.specs.declared.Level.the-variants.{Awake, PowerDown, SelfRefresh, Deep}
 use Rattle.ledger.specs.declared.Ledger.{Ledger}
+use Rattle.ledger.specs.declared.Pace.{Pace}
 use Rattle.ledger.specs.declared.Effect.{Effect}
 use Rattle.ledger.specs.declared.Answer.{Answer}
 use Rattle.ledger.specs.declared.Answer.the-variants.{Done, BadRecord, Earlier, Overdue}
@@ -26,8 +26,11 @@ unfoldable pub use Rattle.card.specs.Reading.{unlessRefused}
 unfoldable pub ledgerOf : Ledger → lent.Ledger
 ledgerOf g = record { at = g .at; owing = subℕ (g .owed) 8; since = g .since; skipped = g .skipped; level = levelOf (g .level) }
 
+unfoldable pub paceOf : Pace → lent.Pace
+paceOf p = record { next = p .next; mr4 = p .mr4 }
+
 unfoldable pub effectOf : Effect → lent.Effect
-effectOf x = record { counted = x .counted; level = levelOf (x .level) }
+effectOf x = record { counted = x .counted; sensed = x .sensed; move = movedOf (x .moved) }
 
 -- and back: the number as it is stored, and the level
 unfoldable pub stored : ℤ → ℕ
@@ -42,6 +45,9 @@ levelIn levels.deep = Deep
 
 unfoldable pub codeOf : lent.Ledger → Ledger
 codeOf g = record { at = g .at; owed = stored (g .owing); since = g .since; skipped = g .skipped; level = levelIn (g .level) }
+
+unfoldable pub paceIn : lent.Pace → Pace
+paceIn p = record { next = p .next; mr4 = p .mr4 }
 
 -- document 01's numbers of each case
 unfoldable pub refusalOf : Answer → Option Refusal
@@ -78,5 +84,6 @@ unfoldable pub deadlineBy : Beat → Ledger → ℕ
 deadlineBy b g = let n = numberOf (ledgerOf g) in g .at + (closedAt b n (g .owed) (g .since) - n)
 
 -- the first cycle at which one of them does; 0 where 13 refuses the ledger or its card, or the cycles of its level are not counted
-unfoldable pub deadlineOf : Card → Ledger → ℕ
-deadlineOf card g = cond (ledgerGood (cardOf card) (ledgerOf g) && not (stopped (levelOf (g .level)))) (deadlineBy (beatOf (cardOf card)) g) 0
+unfoldable pub deadlineOf : Card → Pace → Ledger → ℕ
+deadlineOf card p g =
+    cond (ledgerGood (cardOf card) (ledgerOf g) && not (stopped (levelOf (g .level)))) (deadlineBy (beatOf (cardOf card) (paceOf p)) g) 0

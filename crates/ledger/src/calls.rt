@@ -1,21 +1,22 @@
 // What a lent ledger is asked, with a card: 13, 5, then the account.
 ghost use mathlib.Core.Path.{_≡_};
-ghost use Rattle.rules.specs.Lent.{moveRefusal, enterRefusal, movedOn};
+ghost use Rattle.rules.specs.Lent.{beatOf, moveRefusal, enterRefusal, movedOn};
 ghost use Rattle.rules.specs.Lent as lent;
-ghost use Rattle.rules.specs.Clock.{beatOf};
 ghost use Rattle.card.specs.Values.{cardOf};
-ghost use Rattle.ledger.specs.Values.{ledgerOf, effectOf, Left, deadlineBy, deadlineOf};
+ghost use Rattle.ledger.specs.Values.{ledgerOf, paceOf, effectOf, Left, deadlineBy, deadlineOf};
 ghost use Rattle.ledger.specs.Parts.{beatAs, ReachArgs, admitted, accountOf, newOf, askedOf};
 use crate::After;
 use crate::Answer;
 use crate::Effect;
 use crate::Ledger;
+use crate::Pace;
 use crate::account;
 use crate::account::Beat;
 use crate::entering;
 use crate::moving;
+use crate::pacing;
 use card::Card;
-use pins::Level;
+use pins::Move;
 
 // Whether 13 lets the ledger and its card pass.
 fn sound(ledger: Ledger, card: Card) -> bool
@@ -37,13 +38,6 @@ fn admission(ledger: Ledger, card: Card, to: u32) -> u8
     0
 }
 
-// The dues of a card.
-fn beat_of(card: Card) -> Beat
-    ensures { λ r. ⌜ beatAs r ≡ beatOf (cardOf card) ⌝ }
-{
-    account::every(card::interval(card))
-}
-
 // The account alone: an entry's own cycle, or idle time through a cycle.
 fn go_on(ledger: Ledger, beat: Beat, t: u32, entry: bool, effect: Effect) -> After
     requires { ⌜ ReachArgs ledger (beatAs beat) t ⌝ }
@@ -55,8 +49,8 @@ fn go_on(ledger: Ledger, beat: Beat, t: u32, entry: bool, effect: Effect) -> Aft
     moving::reach(ledger, beat, t)
 }
 
-fn asked(ledger: Ledger, card: Card, t: u32, entry: bool, effect: Effect) -> After
-    ensures { λ r. ⌜ Left (askedOf entry (effectOf effect) (cardOf card) (ledgerOf ledger) t) (ledgerOf ledger) (newOf entry (effectOf effect) (beatOf (cardOf card)) (ledgerOf ledger) t) r ⌝ }
+fn asked(ledger: Ledger, pace: Pace, card: Card, t: u32, entry: bool, effect: Effect) -> After
+    ensures { λ r. ⌜ Left (askedOf entry (effectOf effect) (cardOf card) (paceOf pace) (ledgerOf ledger) t) (ledgerOf ledger) (newOf entry (effectOf effect) (beatOf (cardOf card) (paceOf pace)) (ledgerOf ledger) t) r ⌝ }
 {
     let n = admission(ledger, card, t);
     if n == 13 {
@@ -65,31 +59,33 @@ fn asked(ledger: Ledger, card: Card, t: u32, entry: bool, effect: Effect) -> Aft
     if n == 5 {
         return moving::told(ledger, Answer::Earlier);
     }
-    go_on(ledger, beat_of(card), t, entry, effect)
+    go_on(ledger, pacing::beat_of(pace, card), t, entry, effect)
 }
 
 // Moved on to a later cycle; the cycle it stands at changes nothing. Refused in this order: 13, 5, 11.
-pub fn moved(ledger: Ledger, card: Card, to: u32) -> After
-    ensures { λ r. ⌜ Left (moveRefusal (cardOf card) (ledgerOf ledger) to) (ledgerOf ledger) (movedOn (cardOf card) (ledgerOf ledger) to) r ⌝ }
+pub fn moved(ledger: Ledger, pace: Pace, card: Card, to: u32) -> After
+    ensures { λ r. ⌜ Left (moveRefusal (cardOf card) (paceOf pace) (ledgerOf ledger) to) (ledgerOf ledger) (movedOn (cardOf card) (paceOf pace) (ledgerOf ledger) to) r ⌝ }
 {
     asked(
         ledger,
+        pace,
         card,
         to,
         false,
         Effect {
             counted: false,
-            level: Level::Awake,
+            sensed: false,
+            moved: Move::Stays,
         },
     )
 }
 
-// An entry's own cycle: what is due, a counted refresh if it is one, then 19 and 20; and the level from there on. Refused in this order: 13, 5, 11 below
-// the stamp, 11 at it.
-pub fn entered(ledger: Ledger, card: Card, stamp: u32, effect: Effect) -> After
-    ensures { λ r. ⌜ Left (enterRefusal (effectOf effect) (cardOf card) (ledgerOf ledger) stamp) (ledgerOf ledger) (lent.entered (effectOf effect) (beatOf (cardOf card)) (ledgerOf ledger) stamp) r ⌝ }
+// An entry's own cycle: what is due at this pace, a counted refresh or a temperature if it is one, then 19 and 20; and the level from there on. Refused in
+// this order: 13, 5, 11 below the stamp, 11 at it.
+pub fn entered(ledger: Ledger, pace: Pace, card: Card, stamp: u32, effect: Effect) -> After
+    ensures { λ r. ⌜ Left (enterRefusal (effectOf effect) (cardOf card) (paceOf pace) (ledgerOf ledger) stamp) (ledgerOf ledger) (lent.entered (effectOf effect) (beatOf (cardOf card) (paceOf pace)) (ledgerOf ledger) stamp) r ⌝ }
 {
-    asked(ledger, card, stamp, true, effect)
+    asked(ledger, pace, card, stamp, true, effect)
 }
 
 // Of a ledger that 13 lets pass, and whose cycles count.
@@ -98,13 +94,14 @@ fn deadline_in(ledger: Ledger, beat: Beat) -> u64
     ensures { λ r. ⌜ r ≡ deadlineBy (beatAs beat) ledger ⌝ }
 {
     let n = moving::number_of(ledger);
-    ledger.at as u64 + (account::closed(beat, n, ledger.owed, ledger.since) - n as u64)
+    ledger.at as u64
+        + (account::first_failing(beat, n, ledger.owed, ledger.since).number - n as u64)
 }
 
 // The first cycle at which 19 or 20 fails with no counted refresh; 0 where 13 refuses the ledger or its card, and where the cycles of its level are not
 // counted.
-pub fn deadline(ledger: Ledger, card: Card) -> u64
-    ensures { λ r. ⌜ r ≡ deadlineOf card ledger ⌝ }
+pub fn deadline(ledger: Ledger, pace: Pace, card: Card) -> u64
+    ensures { λ r. ⌜ r ≡ deadlineOf card pace ledger ⌝ }
 {
     if !sound(ledger, card) {
         return 0;
@@ -113,5 +110,5 @@ pub fn deadline(ledger: Ledger, card: Card) -> u64
     if moving::stopped(level) {
         return 0;
     }
-    deadline_in(ledger, beat_of(card))
+    deadline_in(ledger, pacing::beat_of(pace, card))
 }

@@ -1,11 +1,11 @@
 // A ledger taken through an entry's own cycle.
 ghost use mathlib.Core.Path.{_≡_};
-ghost use mathlib.Core.Bool.{true};
+ghost use Prim.Native.Nat.{_-_};
+ghost use mathlib.Core.Bool.{true, cond, _||_};
 ghost use Rattle.rules.specs.Checks.{named};
-ghost use Rattle.rules.specs.Lent.{ledgerTo, refreshedAt, atLevel, failingTo, failingOf};
-ghost use Rattle.pins.specs.Values.{levelOf};
+ghost use Rattle.rules.specs.Lent.{numberOf, ledgerTo, failingTo, failingOf};
 ghost use Rattle.ledger.specs.Values.{ledgerOf, effectOf, refusalOf, isNone, Left};
-ghost use Rattle.ledger.specs.Parts.{beatAs, ReachArgs, NextArgs, dueNext, accountOf, newOf};
+ghost use Rattle.ledger.specs.Parts.{beatAs, Spaced, ReachArgs, NextArgs, dueNext, changedBy, accountOf, newOf};
 use crate::After;
 use crate::Answer;
 use crate::Effect;
@@ -68,35 +68,44 @@ fn at_stamp(ledger: Ledger, beat: Beat, stamp: u32) -> After
     }
 }
 
-// What an entry does where the ledger stands: a counted refresh takes 1, not below -8.
-fn changed(ledger: Ledger, effect: Effect) -> Ledger
-    ensures { λ r. ⌜ ledgerOf r ≡ atLevel (levelOf (effect .level)) (refreshedAt (effect .counted) (ledgerOf ledger)) ⌝ }
+// A counted refresh takes 1, not below -8.
+fn owed_after(owed: u8, counted: bool) -> u8
+    ensures { λ r. ⌜ r ≡ cond counted (owed - 1) owed ⌝ }
 {
-    let at = ledger.at;
-    let owed = ledger.owed;
-    let skipped = ledger.skipped;
-    let level = effect.level;
-    if !effect.counted {
-        return Ledger {
-            at: at,
-            owed: owed,
-            since: ledger.since,
-            skipped: skipped,
-            level: level,
-        };
+    if !counted {
+        return owed;
     }
-    let since = moving::number_of(ledger);
+    if owed == 0 { 0 } else { owed - 1 }
+}
+
+// Where the gap counts from: a counted refresh and a temperature begin it anew where the ledger stands.
+fn since_after(ledger: Ledger, effect: Effect) -> u32
+    ensures { λ r. ⌜ r ≡ cond (effect .counted || effect .sensed) (numberOf (ledgerOf ledger)) (ledger .since) ⌝ }
+{
+    if effect.counted | effect.sensed {
+        return moving::number_of(ledger);
+    }
+    ledger.since
+}
+
+// What an entry does where the ledger stands.
+fn changed(ledger: Ledger, effect: Effect) -> Ledger
+    ensures { λ r. ⌜ ledgerOf r ≡ changedBy (effectOf effect) (ledgerOf ledger) ⌝ }
+{
+    let moved = effect.moved;
+    let level = ledger.level;
     Ledger {
-        at: at,
-        owed: if owed == 0 { 0 } else { owed - 1 },
-        since: since,
-        skipped: skipped,
-        level: level,
+        at: ledger.at,
+        owed: owed_after(ledger.owed, effect.counted),
+        since: since_after(ledger, effect),
+        skipped: ledger.skipped,
+        level: pins::level_after(moved, level),
     }
 }
 
 // 19 and 20 where `here` stands.
 fn kept(ledger: Ledger, here: Ledger, beat: Beat) -> After
+    requires { ⌜ Spaced (beatAs beat) ⌝ }
     ensures { λ r. ⌜ Left (named 11 (failingOf (beatAs beat) (ledgerOf here))) (ledgerOf ledger) (ledgerOf here) r ⌝ }
 {
     let at = here.at as u64;
@@ -109,7 +118,7 @@ fn kept(ledger: Ledger, here: Ledger, beat: Beat) -> After
             },
         );
     }
-    if here.since as u64 + 9 * (beat.span as u64) < moving::number_of(here) as u64 {
+    if here.since as u64 + 9 * beat.span < moving::number_of(here) as u64 {
         return moving::told(
             ledger,
             Answer::Overdue {

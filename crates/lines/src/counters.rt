@@ -12,10 +12,13 @@ use pins::Whose;
 pub fn counter_for(whose: Whose, counter: u8, second: u8) -> u8
     ensures { λ r. ⌜ r ≡ counterFor (whoseOf whose) counter second ⌝ }
 {
-    if pins::is_second(whose) {
-        return second;
+    match whose {
+        Whose::Sole => counter,
+        Whose::First => counter,
+        Whose::Second => second,
+        Whose::Neither => counter,
+        Whose::Both => counter,
     }
-    counter
 }
 
 // Only the entry of a part changes that part's.

@@ -39,7 +39,7 @@ fn put_command(out: &mut [u8], at: usize, command: Command, counter: u8) -> usiz
     put_shown(out, named, shown)
 }
 
-// Nothing where there is one part.
+// Nothing where there is one part, and for what is of both, which has no line.
 fn put_part(out: &mut [u8], at: usize, whose: Whose) -> usize
     requires { ⌜ at + 2 ≤ length (now out) ⌝ }
     ensures memory { λ r. ⌜ Put at (shownPart (whoseOf whose)) (now (out .entry)) (now (out .exit)) r ⌝ }
@@ -50,6 +50,7 @@ fn put_part(out: &mut [u8], at: usize, whose: Whose) -> usize
         Whose::First => put_text(out, at, b" 0"),
         Whose::Second => put_text(out, at, b" 1"),
         Whose::Neither => put_text(out, at, b" -"),
+        Whose::Both => at,
     }
 }
 

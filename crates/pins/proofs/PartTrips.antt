@@ -25,7 +25,7 @@ use Rattle.pins.specs.declared.Read.{Read}
 use Rattle.pins.specs.declared.Read.the-variants.{Plain}
 use Rattle.pins.specs.declared.Told.the-variants.{Part}
 use Rattle.pins.specs.declared.Whose.{Whose}
-use Rattle.pins.specs.declared.Whose.the-variants.{Sole, First, Second, Neither}
+use Rattle.pins.specs.declared.Whose.the-variants.{Sole, First, Second, Neither, Both}
 use Rattle.pins.specs.declared.Wrote.the-variants.{Done}
 use Rattle.pins.specs.Values.{commandOf, decodedOf, readOf, whoseOf, toldOf}
 use Rattle.pins.proofs.Values.{one-read, one-whose}
@@ -38,6 +38,7 @@ owned Sole q e = absurd (let z : _≡_ {A = ℕ} 0 1 = cc in omega arith)
 owned First q e = let z : 0 ≡ q = cc in omega arith
 owned Second q e = let z : 1 ≡ q = cc in omega arith
 owned Neither q e = absurd (let z : _≡_ {A = ℕ} 0 1 = cc in omega arith)
+owned Both q e = absurd (let z : _≡_ {A = ℕ} 0 1 = cc in omega arith)
 
 module _ (x : Writing) (w : Writes x) (two : paired x ≡ true) where
   module _ (q : ℕ) (to : told x ≡ Part q) (n : is NOP (taken x) ≡ false) (small : stamp x < 256 ^ 4) (y : Reading) (r : Reads y) (there : Of x y) where

@@ -5,6 +5,8 @@ use Rattle.pins.proofs.Values.{one-command, one-decoded, one-level, one
 use Rattle.pins.proofs.counter.counter_after as counter-after
 use Rattle.pins.proofs.fields.entry_at as entry-at
 use Rattle.pins.proofs.fields.stamp_at as stamp-at
+use Rattle.pins.proofs.heat.read_mr4 as read-mr4
+use Rattle.pins.proofs.heat.whose_mr4 as whose-mr4
 use Rattle.pins.proofs.levels.is_awake as is-awake
 use Rattle.pins.proofs.levels.judged as judged
 use Rattle.pins.proofs.levels.level_after as level-after
@@ -37,6 +39,12 @@ read-pins-claims κs a r e = fact-of _
 
 pub read-pins-determined : Determined read-pins.ended read-pins-says
 read-pins-determined = determined read-pins.ended read-pins-says read-pins-claims (λ κs a r r′ ws ws′ p p′. (one-read r r′ (p .is) (p′ .is), refl))
+
+abbrev read-mr4-says : Promise read-mr4.ended
+read-mr4-says w = read-mr4.clauses (w .𝓤) (w .H) (w .𝓖 .A) (w .𝓜 .mem) (w .𝓡 .run)
+
+pub read-mr4-determined : Determined read-mr4.ended read-mr4-says
+read-mr4-determined = determined read-mr4.ended read-mr4-says (λ κs a r e. fact-of _) (λ κs a r r′ ws ws′ p p′. (one-read r r′ (p .is) (p′ .is), refl))
 
 abbrev recorded-says : Promise recorded.ended
 recorded-says w = recorded.clauses (w .𝓤) (w .H) (w .𝓖 .A) (w .𝓜 .mem) (w .𝓡 .run)
@@ -82,6 +90,12 @@ whose-pins-claims κs a r e = fact-of _
 
 pub whose-pins-determined : Determined whose-pins.ended whose-pins-says
 whose-pins-determined = determined whose-pins.ended whose-pins-says whose-pins-claims (λ κs a r r′ ws ws′ p p′. (one-whose r r′ p p′, refl))
+
+abbrev whose-mr4-says : Promise whose-mr4.ended
+whose-mr4-says w = whose-mr4.clauses (w .𝓤) (w .H) (w .𝓖 .A) (w .𝓜 .mem) (w .𝓡 .run)
+
+pub whose-mr4-determined : Determined whose-mr4.ended whose-mr4-says
+whose-mr4-determined = determined whose-mr4.ended whose-mr4-says (λ κs a r e. fact-of _) (λ κs a r r′ ws ws′ p p′. (one-whose r r′ (p 0) (p′ 0), refl))
 
 abbrev is-first-says : Promise is-first.ended
 is-first-says w = is-first.clauses (w .𝓤) (w .H) (w .𝓖 .A) (w .𝓜 .mem) (w .𝓡 .run)

@@ -1,15 +1,17 @@
 -- The code's values are told apart by the values of the rules that they are read as, and what is decoded by the number of its refusal.
 use Prim.Native.Nat.{ℕ}
 use mathlib.Core.Path.{_≡_, refl, ap}
-use mathlib.Core.Bool.{cond}
+use mathlib.Core.Bool.{Bool, true, false, cond}
+use mathlib.Core.List.{[], _∷_}
 use mathlib.Core.Option.{Option, none, some}
 use lib.Dec.{eqb}
 use Rattle.rules.specs.Commands as rules
 use Rattle.rules.specs.Pins as pins
 use Rattle.rules.specs.Levels as levels
 use Rattle.rules.specs.Whose as whose
+use Rattle.rules.specs.Heat.{mr4Good}
 use Rattle.rules.specs.Folds.{orElse, firstOf}
-use Rattle.rules.specs.Checks.{Refusal, refusal, unless, isWrong, isReserved, isBarred, isClash}
+use Rattle.rules.specs.Checks.{Refusal, refusal, unless, isWrong, isReserved, isBarred, isClash, codeGood}
 use Rattle.rules.proofs.Determined.{tells}
 use Rattle.pins.specs.declared.Command.{Command}
 use Rattle.pins.specs.declared.Command.the-variants.{Nop, Mrw, Mrr, Refpb, Refab, Act, Rd, Wr, Pre, Prea}
@@ -20,9 +22,9 @@ use Rattle.pins.specs.declared.Level.the-variants.{Awake, PowerDown, Sel
 use Rattle.pins.specs.declared.Move.{Move}
 use Rattle.pins.specs.declared.Move.the-variants.{Stays, Falls, Rises}
 use Rattle.pins.specs.declared.Read.{Read}
-use Rattle.pins.specs.declared.Read.the-variants.{Plain, Moved, Asleep, Barred, Clash}
+use Rattle.pins.specs.declared.Read.the-variants.{Plain, Moved, Asleep, Barred, Clash, Sensed}
 use Rattle.pins.specs.declared.Whose.{Whose}
-use Rattle.pins.specs.declared.Whose.the-variants.{Sole, First, Second, Neither}
+use Rattle.pins.specs.declared.Whose.the-variants.{Sole, First, Second, Neither, Both}
 use Rattle.pins.specs.declared.Wrote.{Wrote}
 use Rattle.pins.specs.declared.Wrote.the-variants.{Done, Unfit, NoRoom}
 use Rattle.pins.specs.Values.{commandOf, decodedOf, levelOf, movedOf, readOf, whoseOf, pinsRefusal, readRefusal, pinsFail, DecodedAs, ReadAs, refusalOf}
@@ -62,11 +64,13 @@ read (levels.moved m) = Moved (moved m)
 read levels.asleep = Asleep
 read levels.barred = Barred
 read levels.clash = Clash
+read (levels.sensed v) = Sensed v
 
 abbrev owner : whose.Whose → Whose
 owner whose.sole = Sole
 owner (whose.part p) = cond (eqb p 0) First Second
 owner whose.neither = Neither
+owner whose.both = Both
 
 abbrev wrote : Option Refusal → Wrote
 wrote none = Done
@@ -111,6 +115,7 @@ read-back (Moved m) = ap Moved (moved-back m)
 read-back Asleep = refl
 read-back Barred = refl
 read-back Clash = refl
+read-back (Sensed v) = refl
 
 owner-back : (w : Whose) → owner (whoseOf w) ≡ w
 unfolding whoseOf
@@ -118,6 +123,7 @@ owner-back Sole = refl
 owner-back First = refl
 owner-back Second = refl
 owner-back Neither = refl
+owner-back Both = refl
 
 wrote-back : (r : Wrote) → wrote (refusalOf r) ≡ r
 unfolding refusalOf refusal
@@ -146,20 +152,25 @@ one-whose = tells whoseOf owner owner-back
 pub one-wrote : {z : Option Refusal} (x y : Wrote) → refusalOf x ≡ z → refusalOf y ≡ z → x ≡ y
 one-wrote = tells refusalOf wrote wrote-back
 
--- ---- the refusal follows from what the pins are
+-- ---- the refusal follows from what an entry is
 plain-told : (d : Decoded) → pinsRefusal d ≡ pinsFail (levels.plain (decodedOf d))
-unfolding decodedOf pinsRefusal pinsFail firstOf orElse unless isWrong isReserved isBarred isClash
+unfolding decodedOf pinsRefusal pinsFail firstOf orElse unless isWrong isReserved isBarred isClash codeGood
 plain-told (Good c) = refl
 plain-told WrongBits = refl
 plain-told Reserved = refl
 
 read-told : (r : Read) → readRefusal r ≡ pinsFail (readOf r)
-unfolding readOf readRefusal pinsFail firstOf orElse unless isWrong isReserved isBarred isClash
+unfolding readOf readRefusal pinsFail firstOf orElse unless isWrong isReserved isBarred isClash codeGood
 read-told (Plain d) = plain-told d
 read-told (Moved m) = refl
 read-told Asleep = refl
 read-told Barred = refl
 read-told Clash = refl
+read-told (Sensed v) = alone (mr4Good v)
+  where
+    alone : (b : Bool) → unless b 26 ≡ firstOf (unless b 26 ∷ [])
+    alone true = refl
+    alone false = refl
 
 pub decoded-as : (p : ℕ) (d : Decoded) → decodedOf d ≡ pins.decode p → DecodedAs p d
 decoded-as p d e = record { is = e; told = rw (← e) (plain-told d) }

@@ -8,8 +8,9 @@ use Rattle.rules.specs.Commands as rules
 use Rattle.rules.specs.Pins as pins
 use Rattle.rules.specs.Levels as levels
 use Rattle.rules.specs.Whose as whose
+use Rattle.rules.specs.Heat.{mr4Good}
 use Rattle.rules.specs.Folds.{firstOf}
-use Rattle.rules.specs.Checks.{Refusal, refusal, unless, isWrong, isReserved, isBarred, isClash}
+use Rattle.rules.specs.Checks.{Refusal, refusal, unless, isWrong, isReserved, isBarred, isClash, codeGood}
 use Rattle.pins.specs.declared.Command.{Command}
 use Rattle.pins.specs.declared.Command.the-variants.{Nop, Mrw, Mrr, Refpb, Refab, Act, Rd, Wr, Pre, Prea}
 use Rattle.pins.specs.declared.Decoded.{Decoded}
@@ -19,9 +20,9 @@ use Rattle.pins.specs.declared.Level.the-variants.{Awake, PowerDown, Sel
 use Rattle.pins.specs.declared.Move.{Move}
 use Rattle.pins.specs.declared.Move.the-variants.{Stays, Falls, Rises}
 use Rattle.pins.specs.declared.Read.{Read}
-use Rattle.pins.specs.declared.Read.the-variants.{Plain, Moved, Asleep, Barred, Clash}
+use Rattle.pins.specs.declared.Read.the-variants.{Plain, Moved, Asleep, Barred, Clash, Sensed}
 use Rattle.pins.specs.declared.Whose.{Whose}
-use Rattle.pins.specs.declared.Whose.the-variants.{Sole, First, Second, Neither}
+use Rattle.pins.specs.declared.Whose.the-variants.{Sole, First, Second, Neither, Both}
 use Rattle.pins.specs.declared.Told.{Told}
 use Rattle.pins.specs.declared.Told.the-variants.{Nobody, Part}
 use Rattle.pins.specs.declared.Wrote.{Wrote}
@@ -61,12 +62,14 @@ readOf (Moved m) = levels.moved (movedOf m)
 readOf Asleep = levels.asleep
 readOf Barred = levels.barred
 readOf Clash = levels.clash
+readOf (Sensed v) = levels.sensed v
 
 unfoldable pub whoseOf : Whose → whose.Whose
 whoseOf Sole = whose.sole
 whoseOf First = whose.part 0
 whoseOf Second = whose.part 1
 whoseOf Neither = whose.neither
+whoseOf Both = whose.both
 
 unfoldable pub toldOf : Told → Option ℕ
 toldOf Nobody = none
@@ -78,17 +81,20 @@ pinsRefusal (Good c) = none
 pinsRefusal WrongBits = some (refusal 6 0 0)
 pinsRefusal Reserved = some (refusal 7 0 0)
 
--- and 16 and 24 of document 02
+-- and 16, 24 and 26 of document 02
 unfoldable pub readRefusal : Read → Option Refusal
 readRefusal (Plain d) = pinsRefusal d
 readRefusal (Moved m) = none
 readRefusal Asleep = none
 readRefusal Barred = some (refusal 16 0 0)
 readRefusal Clash = some (refusal 24 0 0)
+readRefusal (Sensed v) = unless (mr4Good v) 26
 
--- the first that fails of the checks that go by what pins are read as alone
+-- the first that fails of the checks that go by what an entry is read as alone
 unfoldable pub pinsFail : levels.Read → Option Refusal
-pinsFail x = firstOf (unless (not (isWrong x)) 6 ∷ unless (not (isClash x)) 24 ∷ unless (not (isReserved x)) 7 ∷ unless (not (isBarred x)) 16 ∷ [])
+pinsFail x =
+    firstOf
+    (unless (not (isWrong x)) 6 ∷ unless (not (isClash x)) 24 ∷ unless (not (isReserved x)) 7 ∷ unless (not (isBarred x)) 16 ∷ unless (codeGood x) 26 ∷ [])
 
 -- what the pins are, and the first of those checks that they fail
 pub record DecodedAs (p : ℕ) (r : Decoded) : Type 0 where

@@ -156,7 +156,7 @@ fn command_in(decoded: Decoded) -> Command
     }
 }
 
-// The command that the entry leaves in the record: a move and an entry asleep are NOP.
+// The command that the entry leaves in the record: a move, an entry asleep and a temperature are NOP.
 pub fn recorded(read: Read) -> Command
     ensures { λ r. ⌜ commandOf r ≡ entries.recordedAs (readOf read) ⌝ }
 {
@@ -166,6 +166,7 @@ pub fn recorded(read: Read) -> Command
         Read::Asleep => Command::Nop,
         Read::Barred => Command::Nop,
         Read::Clash => Command::Nop,
+        Read::Sensed(_) => Command::Nop,
     }
 }
 
@@ -200,6 +201,7 @@ pub fn judged(read: Read) -> Command
         Read::Asleep => Command::Nop,
         Read::Barred => Command::Nop,
         Read::Clash => Command::Nop,
+        Read::Sensed(_) => Command::Nop,
     }
 }
 
@@ -212,5 +214,6 @@ pub fn move_of(read: Read) -> Move
         Read::Asleep => Move::Stays,
         Read::Barred => Move::Stays,
         Read::Clash => Move::Stays,
+        Read::Sensed(_) => Move::Stays,
     }
 }

@@ -1,6 +1,7 @@
-// The commands on the pins: decoding, the table of kinds, and the writer; the fields that hold them; low clock-enable; two parts on one bus; the round counter.
+// The commands on the pins: decoding, the table of kinds, and the writer; the fields that hold them; low clock-enable; two parts on one bus; temperatures; the round counter.
 mod counter;
 mod fields;
+mod heat;
 mod levels;
 mod pairs;
 mod reader;
@@ -12,6 +13,8 @@ mod writer;
 pub use counter::counter_after;
 pub use fields::entry_at;
 pub use fields::stamp_at;
+pub use heat::read_mr4;
+pub use heat::whose_mr4;
 pub use levels::is_awake;
 pub use levels::judged;
 pub use levels::level_after;
@@ -63,21 +66,25 @@ pub enum Move {
     Rises(Level),
 }
 
-// What pins are at a level: what they are awake with clock-enable high, a move, an entry asleep, what is not permitted here (16), or both CS_n low (24).
+// What an entry is at a level: what pins are awake with clock-enable high, a move, an entry asleep, what is not permitted here (16), both CS_n low (24),
+// or a temperature, the value of MR4 that was read back.
 pub enum Read {
     Plain(Decoded),
     Moved(Move),
     Asleep,
     Barred,
     Clash,
+    Sensed(u8),
 }
 
-// Whose an entry is: of the one part of a trace without tag 25; of part 0; of part 1; or, with both CS_n high, NOP for both.
+// Whose an entry is: of the one part of a trace without tag 25; of part 0; of part 1; with both CS_n high, NOP for both and of neither; or, as a temperature
+// is, of both.
 pub enum Whose {
     Sole,
     First,
     Second,
     Neither,
+    Both,
 }
 
 // The part that the writer is told, or none.

@@ -38,6 +38,7 @@ pub fn is_first(whose: Whose) -> bool
         Whose::First => true,
         Whose::Second => false,
         Whose::Neither => false,
+        Whose::Both => true,
     }
 }
 
@@ -49,5 +50,6 @@ pub fn is_second(whose: Whose) -> bool
         Whose::First => false,
         Whose::Second => true,
         Whose::Neither => false,
+        Whose::Both => true,
     }
 }

@@ -1,8 +1,10 @@
-// The refresh cases of document 01, refusals, sleeps, and moves over all 2^32 cycles. A line each: the refusal's number, rule and cycle, then the
-// ledger's cycle, number with 8 added, where the gap counts from, cycles not counted, and level. The file stdout is worked out by expected.py, due by due.
+// The refresh cases of document 01, refusals, sleeps, temperatures, and moves over all 2^32 cycles. A line each: the refusal's number, rule and cycle, then
+// the ledger's cycle, number with 8 added, where the gap counts from, cycles not counted, and level. A line of two numbers is a pace, its next due and MR4,
+// and a line of one a deadline. The file stdout is worked out by expected.py, due by due.
 ghost use Prim.Native.Nat.{_≤_, _<_};
 use ledger::Ledger;
 use pins::Level;
+use pins::Move;
 use show::comes;
 use show::enters;
 use show::lent;
@@ -12,6 +14,7 @@ use show::stands;
 
 mod show;
 mod sleeps;
+mod temperatures;
 
 // Counted refreshes from the ledger's cycle on, 104 apart.
 fn refreshes(from: Ledger, first: u32, count: u32) -> Ledger
@@ -45,28 +48,34 @@ fn paper() {
 // A due at the cycle where the ledger stands is not added again; a refresh at a cycle that would fail pays first.
 fn own_cycles() {
     let due = moves(stands(0, 8, 0), 3120);
-    enters(due, 3120, false, Level::Awake);
-    enters(due, 3120, true, Level::Awake);
-    enters(stands(0, 8, 0), 3120, false, Level::Awake);
+    enters(due, 3120, false, Move::Stays);
+    enters(due, 3120, true, Move::Stays);
+    enters(stands(0, 8, 0), 3120, false, Move::Stays);
     let full = moves(stands(0, 8, 0), 28079);
-    enters(full, 28080, true, Level::Awake);
-    enters(full, 28080, false, Level::Awake);
-    enters(full, 28081, true, Level::Awake);
-    enters(stands(0, 0, 0), 28080, false, Level::Awake);
-    enters(stands(0, 0, 0), 28081, false, Level::Awake);
-    enters(stands(0, 0, 0), 28081, true, Level::Awake);
+    enters(full, 28080, true, Move::Stays);
+    enters(full, 28080, false, Move::Stays);
+    enters(full, 28081, true, Move::Stays);
+    enters(stands(0, 0, 0), 28080, false, Move::Stays);
+    enters(stands(0, 0, 0), 28081, false, Move::Stays);
+    enters(stands(0, 0, 0), 28081, true, Move::Stays);
 }
 
 fn refusals() {
     moves(stands(5, 17, 0), 9);
     moves(stands(5, 8, 6), 4);
     moves(stands(5, 8, 5), 4);
-    enters(stands(5, 255, 0), 9, true, Level::Awake);
-    enters(stands(5, 8, 5), 4, true, Level::Awake);
+    enters(stands(5, 255, 0), 9, true, Move::Stays);
+    enters(stands(5, 8, 5), 4, true, Move::Stays);
     let mut bad = card::bench();
     bad.period = 0;
-    show::show(ledger::moved(stands(0, 8, 0), bad, 1));
-    show::show(ledger::entered(stands(0, 8, 0), bad, 1, show::effect(false, Level::Awake)));
+    show::show(ledger::moved(stands(0, 8, 0), show::first(), bad, 1));
+    show::show(ledger::entered(
+        stands(0, 8, 0),
+        show::first(),
+        bad,
+        1,
+        show::effect(false, false, Move::Stays),
+    ));
 }
 
 // Eight intervals at a time, and then nine refreshes, up to the last stamp there is.
@@ -75,7 +84,7 @@ fn all_cycles(from: Ledger) -> Ledger {
     let mut to: u64 = 24960;
     while to < 4294967296 {
         ledger = refreshes(
-            ledger::moved(ledger, card::bench(), to as u32).ledger,
+            ledger::moved(ledger, show::first(), card::bench(), to as u32).ledger,
             to as u32,
             9,
         );
@@ -90,14 +99,14 @@ fn all_sleeping(from: Ledger) -> Ledger {
     let mut to: u64 = 24960;
     while to < 4294866462 {
         let paid = refreshes(
-            ledger::moved(ledger, card::bench(), to as u32).ledger,
+            ledger::moved(ledger, show::first(), card::bench(), to as u32).ledger,
             to as u32,
             9,
         );
         ledger = comes(
-            comes(paid, (to + 833) as u32, Level::SelfRefresh),
+            comes(paid, (to + 833) as u32, Move::Falls(Level::SelfRefresh)),
             (to + 100833) as u32,
-            Level::Awake,
+            Move::Rises(Level::SelfRefresh),
         );
         to += 125792;
     }
@@ -109,6 +118,7 @@ fn main() {
     own_cycles();
     refusals();
     sleeps::all();
+    temperatures::all();
     moves(stands(0, 8, 0), 4294967295);
     moves(stands(4294939215, 8, 4294939215), 4294967295);
     moves(stands(4294967295, 16, 0), 4294967295);

@@ -3,8 +3,10 @@ use ledger::After;
 use ledger::Answer;
 use ledger::Effect;
 use ledger::Ledger;
+use ledger::Pace;
 use libc::STDOUT_FILENO;
 use pins::Level;
+use pins::Move;
 
 pub fn lent(at: u32, owed: u8, since: u32, skipped: u32, level: Level) -> Ledger {
     Ledger {
@@ -64,23 +66,64 @@ pub fn show(after: After) -> Ledger {
     ledger
 }
 
-pub fn effect(counted: bool, level: Level) -> Effect {
-    Effect { counted, level }
+pub fn effect(counted: bool, sensed: bool, moved: Move) -> Effect {
+    Effect {
+        counted,
+        sensed,
+        moved,
+    }
+}
+
+// The pace of the bench card before any temperature.
+pub fn first() -> Pace {
+    ledger::first_pace(card::bench())
+}
+
+pub fn moves_at(ledger: Ledger, pace: Pace, to: u32) -> Ledger {
+    show(ledger::moved(ledger, pace, card::bench(), to))
+}
+
+pub fn enters_at(ledger: Ledger, pace: Pace, stamp: u32, effect: Effect) -> Ledger {
+    show(ledger::entered(ledger, pace, card::bench(), stamp, effect))
 }
 
 pub fn moves(ledger: Ledger, to: u32) -> Ledger {
-    show(ledger::moved(ledger, card::bench(), to))
+    moves_at(ledger, first(), to)
 }
 
-pub fn enters(ledger: Ledger, stamp: u32, counted: bool, level: Level) -> Ledger {
-    show(ledger::entered(ledger, card::bench(), stamp, effect(counted, level)))
+pub fn enters(ledger: Ledger, stamp: u32, counted: bool, moved: Move) -> Ledger {
+    enters_at(ledger, first(), stamp, effect(counted, false, moved))
 }
 
-// An entry that is no counted refresh leaves the part at a level; a refresh leaves it awake. The ledger then, with no line.
-pub fn comes(ledger: Ledger, stamp: u32, level: Level) -> Ledger {
-    ledger::entered(ledger, card::bench(), stamp, effect(false, level)).ledger
+// An entry that is no counted refresh, with its move; and a refresh. The ledger then, with no line.
+pub fn comes(ledger: Ledger, stamp: u32, moved: Move) -> Ledger {
+    ledger::entered(
+        ledger,
+        first(),
+        card::bench(),
+        stamp,
+        effect(false, false, moved),
+    ).ledger
 }
 
 pub fn refreshed(ledger: Ledger, stamp: u32) -> Ledger {
-    ledger::entered(ledger, card::bench(), stamp, effect(true, Level::Awake)).ledger
+    ledger::entered(
+        ledger,
+        first(),
+        card::bench(),
+        stamp,
+        effect(true, false, Move::Stays),
+    ).ledger
+}
+
+// A line of one number, and one of a pace.
+pub fn show_number(n: u64) {
+    io::print_decimal(STDOUT_FILENO, n);
+    io::write_all(STDOUT_FILENO, b"\n");
+}
+
+pub fn show_pace(pace: Pace) -> Pace {
+    put(pace.next);
+    show_number(pace.mr4 as u64);
+    pace
 }

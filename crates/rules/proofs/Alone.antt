@@ -1,10 +1,10 @@
--- The judge as it was before two parts could share a bus: those of its definitions that request Nine changed. The rows of rules 1 to 24
--- are today's: they ask the own part alone.
+-- The judge as it was before two parts could share a bus: what request Nine changed in the judge of `Mild`. The rows of rules 1 to 24 are today's: they ask the
+-- own part alone.
 use Prim.Native.Nat.{ℕ, suc}
-use mathlib.Core.Bool.{Bool, cond, not, _&&_, _||_}
+use mathlib.Core.Bool.{Bool, cond, not}
 use mathlib.Core.List.{List, [], _∷_, _++_}
 use mathlib.Core.Option.{Option, none}
-use lib.Dec.{ltb, eqb}
+use lib.Dec.{eqb}
 use lib.ListN.{length, take}
 use Rattle.rules.specs.Card.{Card}
 use Rattle.rules.specs.Units.{Delays, delaysOf}
@@ -18,20 +18,20 @@ use Rattle.rules.specs.States.{stateGood}
 use Rattle.rules.specs.Folds.{firstOf, Rule, firstBroken}
 use Rattle.rules.specs.Delays.{Asked, Answers, Lookup, lookBoth, find, delayRules}
 use Rattle.rules.specs.Account.{lpddr3, ledgerOn, failingIn, firstIn}
-use Rattle.rules.specs.Clock.{bookOf}
 use Rattle.rules.specs.Entries.{Entry, recordedAs, moveOf, judgedAs}
 use Rattle.rules.specs.Checks.{Refusal, unless, named, isWrong, isReserved, isBarred, valueGood, above, notBelow}
-use Rattle.rules.specs.Form.{Field, Group, _upTo_, lastTag, endsGroup, beginsGroup, ofTrace, Listed, _of_, number, numberAt, timingOf}
+use Rattle.rules.specs.Form.{Field, Group, _upTo_, Listed, _of_, number, numberAt, timingOf}
 use Rattle.rules.specs.File.{FileVerdict, accepted}
 use Rattle.rules.specs.Lines.{decimal, nameOf, showsBank, verdictLine}
 use Rattle.rules.proofs.Walks.{Judge, judgedBy}
+use Rattle.rules.proofs.Mild.{pinsOf, mildBook, comeIn}
 
 -- ---- an entry goes by its card, the level and its pins, and all are of the one part
 unfoldable pub aloneRead : Card → Past → Entry → Read
-aloneRead card past e = readPins (card .sleeps) (levelAt past) (e .pins)
+aloneRead card past e = readPins (card .sleeps) (levelAt past) (pinsOf e)
 
 unfoldable pub aloneTaken : Card → Past → Entry → Taken
-aloneTaken card past e = let r = aloneRead card past e in record { stamp = e .stamp; cmd = recordedAs r; move = moveOf r; whose = sole }
+aloneTaken card past e = let r = aloneRead card past e in record { stamp = e .stamp; cmd = recordedAs r; move = moveOf r; whose = sole; mr4 = none }
 
 -- rules 1 to 24, and no other part that could answer
 unfoldable pub noAnswer : Answers
@@ -50,30 +50,25 @@ aloneEntry card past e =
     let t = e .stamp in
     firstOf (
     unless (above past t) 5 ∷
-    named 11 (firstIn lpddr3 (bookOf card past ∷ []) t) ∷
+    named 11 (firstIn lpddr3 (mildBook card past ∷ []) t) ∷
     unless (not (isWrong r)) 6 ∷
     unless (not (isReserved r)) 7 ∷
     unless (stateGood (λ b. isOpen b past) (counterAt past) c) 8 ∷
     unless (not (isBarred r)) 16 ∷
     unless (valueGood card c) 9 ∷
     named 10 (firstBroken (aloneLook card past) (aloneRules (delaysOf card) c (moveOf r) (counterAt past)) t) ∷
-    named 11 (failingIn lpddr3 (bookOf card (aloneTaken card past e ∷ past) ∷ []) t) ∷ []
+    named 11 (failingIn lpddr3 (mildBook card (aloneTaken card past e ∷ past) ∷ []) t) ∷ []
     )
 
 unfoldable pub aloneEnd : Card → Past → ℕ → Option Refusal
-aloneEnd card past end = firstOf (unless (notBelow past end) 5 ∷ named 11 (firstIn lpddr3 (bookOf card past ∷ []) (suc end)) ∷ [])
+aloneEnd card past end = firstOf (unless (notBelow past end) 5 ∷ named 11 (firstIn lpddr3 (mildBook card past ∷ []) (suc end)) ∷ [])
 
 unfoldable pub aloneVerdict : Card → Past → ℕ → FileVerdict
-aloneVerdict card past end = accepted (commandCount past) (length (countedStamps past)) (ledgerOn (lpddr3 .credit) (bookOf card past) end ∷ [])
+aloneVerdict card past end = accepted (commandCount past) (length (countedStamps past)) (ledgerOn (lpddr3 .credit) (mildBook card past) end ∷ [])
 
 -- ---- the card is tags 1 to 18, and 19 to 22 behind them or not
 unfoldable pub aloneGroups : List Group
 aloneGroups = 1 upTo 18 ∷ 19 upTo 22 ∷ []
-
-unfoldable pub aloneCome : (entries : Bool) → List Field → ℕ → Bool
-aloneCome entries fs tag =
-    cond (endsGroup aloneGroups (lastTag fs)) (ofTrace tag || (not entries && (ltb (lastTag fs) tag && beginsGroup aloneGroups tag)))
-    (eqb tag (suc (lastTag fs)))
 
 -- their lengths, and what their values may be
 unfoldable pub aloneLengths : List Listed
@@ -94,9 +89,9 @@ aloneGood fs f =
 
 unfoldable pub alone : Judge
 alone = record {
-  come = aloneCome;
+  come = comeIn aloneGroups;
   entry = aloneEntry;
-  next = λ card past e. aloneTaken card past e ∷ past;
+  taken = aloneTaken;
   end = aloneEnd;
   verdict = aloneVerdict;
 }

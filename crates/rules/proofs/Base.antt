@@ -25,6 +25,7 @@ use Rattle.rules.specs.Form.{Field, lastTag}
 use Rattle.rules.specs.File.{FileVerdict, accepted}
 use Rattle.rules.specs.Lines.{verdictLine}
 use Rattle.rules.proofs.Walks.{Judge, judgedBy}
+use Rattle.rules.proofs.Mild.{pinsOf}
 use Rattle.rules.proofs.Alone.{aloneLook, aloneRules, aloneLines}
 
 -- ---- the account, cycle by cycle: each is counted, and a refresh is due at every positive multiple of I
@@ -52,7 +53,7 @@ baseFirst k I cs (suc t) = orElse (baseFirst k I cs t) (baseFailing k I cs t)
 
 -- ---- an entry is what its pins say, and moves nothing
 unfoldable pub baseTaken : Entry → Taken
-baseTaken e = record { stamp = e .stamp; cmd = commandOf (decode (e .pins)); move = stays; whose = sole }
+baseTaken e = record { stamp = e .stamp; cmd = commandOf (decode (pinsOf e)); move = stays; whose = sole; mr4 = none }
 
 -- rules 1 to 18
 unfoldable pub baseRules : Delays → Command → ℕ → List (Rule Asked ℕ)
@@ -60,7 +61,7 @@ baseRules d c n = take 18 (aloneRules d c stays n)
 
 unfoldable pub baseEntry : Card → Past → Entry → Option Refusal
 baseEntry card past e =
-    let d = decode (e .pins) in
+    let d = decode (pinsOf e) in
     let c = commandOf d in
     let t = e .stamp in
     firstOf (
@@ -90,7 +91,7 @@ unfoldable pub base : Judge
 base = record {
   come = λ entries. baseCome;
   entry = baseEntry;
-  next = λ card past e. baseTaken e ∷ past;
+  taken = λ card past. baseTaken;
   end = baseEnd;
   verdict = baseVerdict;
 }

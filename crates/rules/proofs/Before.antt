@@ -1,17 +1,17 @@
 -- A file that does not use low clock-enable has the verdict and the lines that document 01's judge gave it: every file had, just before request Nine, unless
--- tag 19 stands behind its card, where that judge refused it by 2. By `Untagged` every file has still, unless tag 19 or 25 stands so.
+-- tag 19 stands behind its card, where that judge refused it by 2. By `Untagged` every file has still, unless tag 19, 25, 26 or 34 stands so.
 use Prim.Native.Nat.{ℕ, zero, suc, _+_, _-_, _≤_}
-use mathlib.Core.Path.{_≡_, refl, ap, sym, _∙_, subst, fun-ext}
-use mathlib.Core.Logic.{_⊎_, inl, inr, ⊎-elim}
+use mathlib.Core.Path.{_≡_, refl, ap, sym, _∙_, fun-ext}
+use mathlib.Core.Logic.{_⊎_, ⊎-elim}
 use mathlib.Core.Bool.{Bool, true, false, cond, not, _&&_, _||_, and-false, or-false}
 use mathlib.Core.List.{List, [], _∷_, _++_, append-nil, map}
 use mathlib.Core.Option.{none}
 use native.Mathlib.Omega.{arith}
 use lib.Dec.{ltb, eqb}
 use lib.IntN.{ℤ}
-use lib.ListN.{length, take, drop, take-append-drop}
-use borrow.Author.Tests.{le-ltb, eqb-true, eq-eqb, ne-eqb}
-use Rattle.rules.specs.Lists.{when, Every}
+use lib.ListN.{take, drop, take-append-drop}
+use borrow.Author.Tests.{eqb-true, ne-eqb}
+use Rattle.rules.specs.Lists.{all, when, Every}
 use Rattle.rules.specs.Card.{Card}
 use Rattle.rules.specs.Units.{Delays, interval, delaysOf}
 use Rattle.rules.specs.Commands.{NOP, REFPB, REFAB, Command, is}
@@ -21,20 +21,22 @@ use Rattle.rules.specs.Past.{Taken, Past, bankAt, levelAt, counterAfter,
 use Rattle.rules.specs.Folds.{orElse, firstOf, Rule, latest, back, permitted, permittedBy, bound, firstBroken}
 use Rattle.rules.specs.Delays.{Ask, lastPowerExit, lastSelfExit, Asked, latestMove, means, found, lookBoth, find, from, rule, delayRules}
 use Rattle.rules.specs.Account.{Terms, lpddr3, isDue, every, onBeat, steady, cycle, ledgerBefore, ledgerAfter, failing, Book, ledgerOn, lastOn, failingOn, firstOn}
-use Rattle.rules.specs.Clock.{clock, beatOf, scheduleOf, bookOf}
+use Rattle.rules.specs.Clock.{clock}
 use Rattle.rules.specs.Entries.{Entry, commandOf, recordedAs, moveOf, judgedAs}
 use Rattle.rules.specs.Checks.{unless, isBarred}
-use Rattle.rules.specs.Form.{Field, bytesOf, sizeOf, _upTo_, lastTag, endsGroup, beginsGroup, cardWhole, ofTrace, mayCome, has, cardOf, fieldGood, entryOf}
-use Rattle.rules.specs.File.{accepted, refused, ends, begun, Judged, judged, judgeFile}
-use Rattle.rules.specs.FileReading.{CardRight, cardBytes}
+use Rattle.rules.specs.Form.{Field, _upTo_, groups, lastTag, endsGroup, beginsGroup, cardWhole, ofTrace, has, cardOf, entryOf}
+use Rattle.rules.specs.File.{accepted, refused, begun, Judged, judged, judgeFile}
+use Rattle.rules.specs.FileReading.{CardRight}
 use Rattle.rules.specs.Lines.{decimal, signed, ledgerParts, verdictLine, linesOf}
 use Rattle.rules.proofs.Tests.{eq-cases, _&_}
 use Rattle.rules.proofs.Biased.{numbered}
 use Rattle.rules.proofs.Clocks.{Counting, counted-all}
 use Rattle.rules.proofs.Decided.{failing-one, first-one}
-use Rattle.rules.proofs.Walks.{headBy, byHeadBy, stepBy, judgedBy, Sized, Kept, Here, kept, moved, agree, Place, place-start, place-card, place-entry}
-use Rattle.rules.proofs.Alone.{aloneRead, aloneTaken, aloneLook, aloneRules, aloneEntry, aloneEnd, aloneVerdict, aloneGroups, aloneCome, alone, aloneLines, linesAlone}
-use Rattle.rules.proofs.Untagged.{quiet-tail, differs-at-25, Paired, as-alone, alone-lines}
+use Rattle.rules.proofs.Walks.{judgedBy, Met, TagTests, tests-as, still-comes, Alike, agree, behind-it}
+use Rattle.rules.proofs.Mild.{pinsOf, mildBook, comeIn}
+use Rattle.rules.proofs.Unheated.{card-low, come-more, Heated}
+use Rattle.rules.proofs.Alone.{aloneRead, aloneTaken, aloneLook, aloneRules, aloneEntry, aloneEnd, aloneVerdict, aloneGroups, alone, aloneLines, linesAlone}
+use Rattle.rules.proofs.Untagged.{quiet-tail, alone-comes, Paired, alone-ever, alone-lines}
 use Rattle.rules.proofs.Base.{baseCycle, baseBefore, baseLedger, baseFailing, baseFirst, baseTaken, baseRules, baseEntry, baseEnd, baseVerdict, baseCome, base, judgeBase, linesBase}
 
 -- ---- the account
@@ -83,8 +85,8 @@ map-id : (f : ℕ → ℕ) → ((n : ℕ) → f n ≡ n) → (l : List ℕ) → 
 map-id f h [] = refl
 map-id f h (x ∷ l) = rw (h x, map-id f h l)
 
-still-book : (card : Card) (past : Past) → Still past → bookOf card past ≡ straight (interval card) (countedStamps past)
-unfolding bookOf scheduleOf beatOf
+still-book : (card : Card) (past : Past) → Still past → mildBook card past ≡ straight (interval card) (countedStamps past)
+unfolding mildBook
 still-book card past s = λ i. record {
   schedule = steady (every (interval card));
   clock = fun-ext {f = clock past} {g = λ t. t} (still-clock past s) i;
@@ -129,13 +131,13 @@ module _ (card : Card) (still : card .sleeps ≡ false) (past : Past) (s : Still
       sym (ap (λ (l : List (Rule Asked ℕ)). firstBroken (aloneLook card past) l t) (take-append-drop 18 (aloneRules d c stays n)))
       ∙ quiet-tail (aloneLook card past) t (take 18 (aloneRules d c stays n)) (drop 18 (aloneRules d c stays n)) (silent card past s d c n)
 
-  read-plain : (e : Entry) → aloneRead card past e ≡ plain (decode (e .pins))
+  read-plain : (e : Entry) → aloneRead card past e ≡ plain (decode (pinsOf e))
   unfolding aloneRead readPins
   read-plain e = rw still
 
-  same-next : (e : Entry) → aloneTaken card past e ≡ baseTaken e
+  same-taken : (e : Entry) → aloneTaken card past e ≡ baseTaken e
   unfolding aloneTaken baseTaken
-  same-next e = rw (read-plain e) (unfold recordedAs moveOf in refl)
+  same-taken e = rw (read-plain e) (unfold recordedAs moveOf in refl)
 
   still-next : (e : Entry) → Still (baseTaken e ∷ past)
   unfolding Still baseTaken
@@ -145,7 +147,7 @@ module _ (card : Card) (still : card .sleeps ≡ false) (past : Past) (s : Still
   unfolding aloneEntry baseEntry
   same-entry e =
       rw (
-        same-next e,
+        same-taken e,
         still-book card past s,
         still-book card (baseTaken e ∷ past) (still-next e),
         first-one lpddr3 (straight (interval card) (countedStamps past)) (e .stamp),
@@ -155,7 +157,7 @@ module _ (card : Card) (still : card .sleeps ≡ false) (past : Past) (s : Still
         read-plain e,
       )
       (unfold judgedAs moveOf isBarred unless firstOf orElse in
-      rw (same-rules (delaysOf card) (commandOf (decode (e .pins))) (counterAt past) (e .stamp)))
+      rw (same-rules (delaysOf card) (commandOf (decode (pinsOf e))) (counterAt past) (e .stamp)))
 
   same-end : (end : ℕ) → aloneEnd card past end ≡ baseEnd card past end
   unfolding aloneEnd baseEnd
@@ -165,156 +167,74 @@ module _ (card : Card) (still : card .sleeps ≡ false) (past : Past) (s : Still
   unfolding aloneVerdict baseVerdict baseLedger
   same-verdict end = rw (still-book card past s) (unfold ledgerOn ledgerAfter in rw (ledger-is (lpddr3 .credit) (interval card) (countedStamps past) (suc end)))
 
--- ---- the tags
--- up to tag 18 the two tests differ for tag 19 alone, behind tag 18 and before the first entry
-module _ (b : Bool) (fs : List Field) (low : lastTag fs ≤ 18) (t : ℕ) where
-  ends-18 : endsGroup aloneGroups (lastTag fs) ≡ eqb 18 (lastTag fs)
-  unfolding endsGroup aloneGroups _upTo_
-  ends-18 = rw (ne-eqb 22 (lastTag fs) (λ e. omega (arith, e, low))) (or-false (eqb 18 (lastTag fs)))
-
-  none-begins : lastTag fs ≡ 18 → (t ≡ 19 → ⊥) → (ltb (lastTag fs) t && beginsGroup aloneGroups t) ≡ false
-  unfolding beginsGroup aloneGroups _upTo_
-  none-begins l n = rw (ne-eqb 19 t (λ e. n (sym e))) (⊎-elim
-      (λ (q : (1 ≡ t) × (eqb 1 t ≡ true)). rw (le-ltb (lastTag fs) t (omega (arith, l, q .0))))
-      (λ (q : (1 ≡ t → ⊥) × (eqb 1 t ≡ false)). rw (q .1) (and-false (ltb (lastTag fs) t)))
-      (eq-cases 1 t))
-
-  tag-differs : (aloneCome b fs t ≡ baseCome fs t) ⊎ ((b ≡ false) × (lastTag fs ≡ 18) × (t ≡ 19))
-  unfolding aloneCome baseCome ofTrace
-  tag-differs = rw ends-18 (⊎-elim
-      (λ (q : (lastTag fs ≡ 18) × (eqb (lastTag fs) 18 ≡ true)). rw (q .1, eq-eqb 18 (lastTag fs) (sym (q .0))) (by b refl (q .0) (eq-cases t 19)))
-      (λ (q : (lastTag fs ≡ 18 → ⊥) × (eqb (lastTag fs) 18 ≡ false)). rw (q .1, ne-eqb 18 (lastTag fs) (λ e. q .0 (sym e))) (inl refl))
-      (eq-cases (lastTag fs) 18))
-    where
-      by : (x : Bool) → b ≡ x → lastTag fs ≡ 18 → ((t ≡ 19) × (eqb t 19 ≡ true)) ⊎ ((t ≡ 19 → ⊥) × (eqb t 19 ≡ false)) →
-          (((eqb t 32 || eqb t 33) || (not x && (ltb (lastTag fs) t && beginsGroup aloneGroups t))) ≡ (eqb t 32 || eqb t 33)) ⊎ ((b ≡ false) × (lastTag fs ≡ 18) × (t ≡ 19))
-      by true e l c = inl (or-false (eqb t 32 || eqb t 33))
-      by false e l (inl q) = inr (e, l, q .0)
-      by false e l (inr q) = inl (rw (none-begins l (q .0)) (or-false (eqb t 32 || eqb t 33)))
-
--- a field of the card has the next tag
-next-tag : (fs : List Field) (t : ℕ) → baseCome fs t ≡ true → ofTrace t ≡ false → lastTag fs ≤ 18 → (t ≡ suc (lastTag fs)) × (t ≤ 18)
-unfolding baseCome ofTrace
-next-tag fs t m o low = ⊎-elim
-    (λ (q : (lastTag fs ≡ 18) × (eqb (lastTag fs) 18 ≡ true)). let z : false ≡ true = rw (q .1, o) at m in let y : _≡_ {A = ℕ} 0 1 = cc in absurd (omega arith))
-    (λ (q : (lastTag fs ≡ 18 → ⊥) × (eqb (lastTag fs) 18 ≡ false)). let e = eqb-true t (suc (lastTag fs)) (rw (q .1) at m) in (e, omega (arith, e, low, q .0)))
-    (eq-cases (lastTag fs) 18)
-
 -- ---- a file
--- tag 19 stands behind a right card of tags 1 to 18; and what was said of the file is a wrong tag there
-pub record Tagged (bytes : List ℕ) (j : Judged) : Type 0 where
-  pub fs : List Field
-  pub rest : List ℕ
-  pub card : CardRight fs
-  pub last : lastTag fs ≡ 18
-  pub split : bytes ≡ cardBytes fs ++ (19 ∷ rest)
-  pub verdict : j .verdict ≡ refused 2 0 (length (cardBytes fs)) 0
+-- tag 19 behind tag 18, before the first entry
+abbrev pub Tag19 : (entries : Bool) → List Field → ℕ → Type 0
+Tag19 entries fs t = (entries ≡ false) × (lastTag fs ≡ 18) × (t ≡ 19)
+
+-- the card is one group
+base-come : (b : Bool) (fs : List Field) (t : ℕ) → comeIn (1 upTo 18 ∷ []) b fs t ≡ baseCome fs t
+unfolding comeIn baseCome endsGroup beginsGroup _upTo_
+base-come b fs t = ⊎-elim
+    (λ (q : (lastTag fs ≡ 18) × (eqb (lastTag fs) 18 ≡ true)). rw (q .0, none-begins) (or-false (eqb t 32 || eqb t 33)))
+    (λ (q : (lastTag fs ≡ 18 → ⊥) × (eqb (lastTag fs) 18 ≡ false)). rw (q .1, ne-eqb 18 (lastTag fs) (λ e. q .0 (sym e))))
+    (eq-cases (lastTag fs) 18)
+  where
+    none-begins : (not b && (ltb 18 t && (eqb 1 t || false))) ≡ false
+    none-begins = ⊎-elim
+        (λ (q : (1 ≡ t) × (eqb 1 t ≡ true)). rw (← q .0) (and-false (not b)))
+        (λ (q : (1 ≡ t → ⊥) × (eqb 1 t ≡ false)). rw (q .1, and-false (ltb 18 t), and-false (not b)))
+        (eq-cases 1 t)
+
+module _ (b : Bool) (fs : List Field) (low : lastTag fs ≤ 18) where
+  tag-as-before : (t : ℕ) → TagTests (comeIn aloneGroups b fs t) (baseCome fs t) (cardWhole fs) (Tag19 b fs t)
+  tag-as-before t = rw (← base-come b fs t) (tests-as (λ w n. let l = last w in (whole l, (n .0, l, n .1))) group-19)
+    where
+      last : endsGroup (1 upTo 18 ∷ []) (lastTag fs) ≡ true → lastTag fs ≡ 18
+      last e = unfold endsGroup _upTo_ in sym (eqb-true 18 (lastTag fs) (sym (or-false (eqb 18 (lastTag fs))) ∙ e))
+
+      whole : lastTag fs ≡ 18 → cardWhole fs ≡ true
+      whole l = unfold cardWhole endsGroup groups _upTo_ in rw l
+
+      group-19 : TagTests (comeIn aloneGroups b fs t) (comeIn (1 upTo 18 ∷ []) b fs t) (endsGroup (1 upTo 18 ∷ []) (lastTag fs)) ((b ≡ false) × (t ≡ 19))
+      group-19 = unfold aloneGroups beginsGroup _upTo_ in come-more (1 upTo 18 ∷ []) (19 upTo 22) refl (omega arith) b fs (omega (arith, low)) t
+
+-- tag 19 stands so, and what was said of the file is a wrong tag there
+abbrev pub Tagged : List ℕ → Judged → Type 0
+Tagged = Met Tag19
+
+record Also (fs : List Field) (past : Past) : Type 0 where
+  low : lastTag fs ≤ 18
+  without : has 19 fs ≡ false
+  still : Still past
+
+alike : (fs : List Field) (past : Past) → CardRight fs → Also fs past → Alike alone base Tag19 Also fs past
+unfolding alone base
+alike fs past r q = record {
+  tag = tag-as-before (begun past) fs (q .low);
+  known = λ t m. alone-comes (begun past) fs (omega (arith, q .low)) t (still-comes (tag-as-before (begun past) fs (q .low) t) m);
+  card = λ f b m o. let l = small f m o in record { low = unfold lastTag in l; without = unfold has in rw (ne-eqb (f .tag) 19 (λ e. omega (arith, e, l))) (q .without); still = q .still };
+  entry = λ f n. same-entry (cardOf fs) awake-card past (q .still) (entryOf f);
+  taken = λ f n. same-taken (cardOf fs) awake-card past (q .still) (entryOf f);
+  also = λ f n e. record { low = q .low; without = q .without; still = still-next (cardOf fs) awake-card past (q .still) (entryOf f) };
+  end = λ w. same-end (cardOf fs) awake-card past (q .still);
+  verdict = λ w t n. same-verdict (cardOf fs) awake-card past (q .still) t;
+}
+  where
+    awake-card : cardOf fs .sleeps ≡ false
+    awake-card = unfold cardOf in q .without
+
+    small : (f : Field) → baseCome fs (f .tag) ≡ true → ofTrace (f .tag) ≡ false → f .tag ≤ 18
+    small f m = unfold all endsGroup _upTo_ in card-low 18 (1 upTo 18 ∷ []) refl refl (begun past) fs (f .tag) (q .low) (base-come (begun past) fs (f .tag) ∙ m)
 
 module _ (bytes : List ℕ) where
-  record At (fs : List Field) (past : Past) (at : ℕ) (bs : List ℕ) : Type 0 where
-    right : CardRight fs
-    low : lastTag fs ≤ 18
-    without : has 19 fs ≡ false
-    still : Still past
-    place : Place bytes fs past at bs
-
-  module _ (fs : List Field) (past : Past) (at : ℕ) (bs : List ℕ) (a : At fs past at bs) where
-    awake-card : cardOf fs .sleeps ≡ false
-    unfolding cardOf
-    awake-card = a .without
-
-    card-on : (f : Field) (rest : List ℕ) → bs ≡ bytesOf f ++ rest → baseCome fs (f .tag) ≡ true → Sized f → ofTrace (f .tag) ≡ false → fieldGood fs f ≡ true →
-        At (f ∷ fs) past (at + sizeOf f) rest
-    unfolding CardRight has lastTag
-    card-on f rest e m s o g =
-        let n = next-tag fs (f .tag) m o (a .low) in
-        record {
-          right = (record { tag = may; size = s .size; whole = s .whole }, o, g, a .right);
-          low = n .1;
-          without = rw (ne-eqb (f .tag) 19 (λ q. omega (arith, q, n .1))) (a .without);
-          still = a .still;
-          place = place-card fs past at bs (a .place) f rest e;
-        }
-      where
-        small : f .tag ≤ 18
-        small = next-tag fs (f .tag) m o (a .low) .1
-
-        may : mayCome false fs (f .tag) ≡ true
-        may = ⊎-elim
-            (λ (q : mayCome false fs (f .tag) ≡ aloneCome false fs (f .tag)). q ∙ ⊎-elim
-            (λ (r : aloneCome false fs (f .tag) ≡ baseCome fs (f .tag)). r ∙ m)
-            (λ (r : (false ≡ false) × (lastTag fs ≡ 18) × (f .tag ≡ 19)). absurd (omega (arith, small, r .2)))
-            (tag-differs false fs (a .low) (f .tag)))
-            (λ (q : (false ≡ false) × (cardWhole fs ≡ true) × (f .tag ≡ 25)). absurd (omega (arith, small, q .2)))
-            (differs-at-25 fs (omega (arith, a .low)) false (f .tag))
-
-    entry-on : (f : Field) (rest : List ℕ) → At fs (baseTaken (entryOf f) ∷ past) (at + sizeOf f) rest
-    entry-on f rest = record {
-      right = a .right;
-      low = a .low;
-      without = a .without;
-      still = still-next (cardOf fs) awake-card past (a .still) (entryOf f);
-      place = place-entry fs _ past _ rest;
-    }
-
-    keep : ((t : ℕ) (rest : List ℕ) → bs ≡ t ∷ rest → aloneCome (begun past) fs t ≡ baseCome fs t) → Kept alone base At (Tagged bytes) fs past at bs
-    unfolding alone base
-    keep c = record {
-      agrees = record {
-        come = c;
-        entry = λ m. same-entry (cardOf fs) awake-card past (a .still);
-        next = λ m e. ap (λ (x : Taken). x ∷ past) (same-next (cardOf fs) awake-card past (a .still) e);
-        end = λ m. same-end (cardOf fs) awake-card past (a .still);
-        verdict = λ m end n. same-verdict (cardOf fs) awake-card past (a .still) end;
-      };
-      card = card-on;
-      entry = λ f rest m n. entry-on f rest;
-    }
-
-  ended-before : (fs : List Field) (past : Past) (at : ℕ) (rest : List ℕ) → lastTag fs ≡ 18 → stepBy base fs past at (19 ∷ rest) ≡ ends (refused 2 0 at 0)
-  unfolding stepBy headBy byHeadBy base baseCome
-  ended-before fs past at rest l = rw (eq-eqb (lastTag fs) 18 l)
-
-  here : (fs : List Field) (past : Past) (at : ℕ) (bs : List ℕ) → At fs past at bs → Here alone base At (Tagged bytes) fs past at bs
-  here fs past at [] a = kept (keep fs past at [] a (λ t rest e. absurd (none e)))
-    where
-      none : {t : ℕ} {rest : List ℕ} → Path (List ℕ) [] (t ∷ rest) → ⊥
-      none e = let z : _≡_ {A = ℕ} 0 1 = cc in omega arith
-  here fs past at (t ∷ bs) a = ⊎-elim
-      (λ (c : aloneCome (begun past) fs t ≡ baseCome fs t). kept (keep fs past at (t ∷ bs) a (λ u rest e. let z : t ≡ u = cc in rw (← z) c)))
-      (λ (q : (begun past ≡ false) × (lastTag fs ≡ 18) × (t ≡ 19)).
-      moved (refused 2 0 at 0) (rw (q .2) (ended-before fs past at bs (q .1))) (record {
-        fs = fs;
-        rest = bs;
-        card = a .right;
-        last = q .1;
-        split = a .place .split (q .0) ∙ ap (λ (x : ℕ). cardBytes fs ++ (x ∷ bs)) (q .2);
-        verdict = ap (λ (n : ℕ). refused 2 0 n 0) (a .place .offset (q .0));
-      }))
-      (tag-differs (begun past) fs (a .low) t)
-
-  start : At [] [] 0 bytes
-  start = record {
-    right = unfold CardRight in tt;
-    low = unfold lastTag in omega arith;
-    without = unfold has in refl;
-    still = unfold Still in tt;
-    place = place-start;
-  }
-
-  -- the entries taken and the verdict were those of document 01's judge, or tag 19 stands where it saw a wrong tag
+  -- just before request Nine the entries taken and the verdict were those of document 01's judge, or tag 19 stands where it saw a wrong tag
   pub as-before : (judgedBy alone bytes ≡ judgedBy base bytes) ⊎ Tagged bytes (judgedBy base bytes)
-  as-before = agree alone base At (Tagged bytes) here bytes start
+  as-before = agree alone base Tag19 Also alike bytes (record { low = unfold lastTag in omega arith; without = unfold has in refl; still = unfold Still in tt })
 
-  -- and they are still, or tag 19 or 25 stands so
-  pub as-ever : (judged bytes ≡ judgedBy base bytes) ⊎ (Tagged bytes (judgedBy base bytes) ⊎ Paired bytes (judgedBy base bytes))
-  as-ever = by as-before (as-alone bytes)
-    where
-      by : (judgedBy alone bytes ≡ judgedBy base bytes) ⊎ Tagged bytes (judgedBy base bytes) → (judged bytes ≡ judgedBy alone bytes) ⊎ Paired bytes (judgedBy alone bytes) →
-          (judged bytes ≡ judgedBy base bytes) ⊎ (Tagged bytes (judgedBy base bytes) ⊎ Paired bytes (judgedBy base bytes))
-      by (inr t) q = inr (inl t)
-      by (inl e) (inl q) = inl (q ∙ e)
-      by (inl e) (inr p) = inr (inr (subst (Paired bytes) e p))
+  -- and they are still, or tag 19, 25, 26 or 34 stands so
+  pub as-ever : (judged bytes ≡ judgedBy base bytes) ⊎ (Tagged bytes (judgedBy base bytes) ⊎ (Paired bytes (judgedBy base bytes) ⊎ Heated bytes (judgedBy base bytes)))
+  as-ever = behind-it (λ j. Paired bytes j ⊎ Heated bytes j) as-before (alone-ever bytes)
 
   -- so where that judge's verdict is no wrong tag, verdict and lines are as they were
   module _ (right : (at : ℕ) → judgeBase bytes ≡ refused 2 0 at 0 → ⊥) where
@@ -325,7 +245,9 @@ module _ (bytes : List ℕ) where
     then = ⊎-elim (λ (e : judgedBy alone bytes ≡ judgedBy base bytes). e) (λ (t : Tagged bytes (judgedBy base bytes)). wrong _ refl _ (t .verdict)) as-before
 
     now : judged bytes ≡ judgedBy alone bytes
-    now = ⊎-elim (λ (e : judged bytes ≡ judgedBy alone bytes). e) (λ (t : Paired bytes (judgedBy alone bytes)). wrong _ (sym then) _ (t .verdict)) (as-alone bytes)
+    now = ⊎-elim (λ (e : judged bytes ≡ judgedBy alone bytes). e)
+        (⊎-elim (λ (p : Paired bytes (judgedBy alone bytes)). wrong _ (sym then) _ (p .verdict)) (λ (h : Heated bytes (judgedBy alone bytes)). wrong _ (sym then) _ (h .verdict)))
+        (alone-ever bytes)
 
     pub verdict-as-before : judgeFile bytes ≡ judgeBase bytes
     unfolding judgeFile judgeBase

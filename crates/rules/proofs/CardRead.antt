@@ -8,7 +8,7 @@ use native.Mathlib.Omega.{arith}
 use lib.Dec.{leb, eqb}
 use borrow.Author.Tests.{ne-eqb, not-true}
 use Rattle.rules.specs.Lists.{all}
-use Rattle.rules.specs.Ranges.{timingGood, timings, sleepTimings, cardGood}
+use Rattle.rules.specs.Ranges.{timingGood, raiseGood, timings, sleepTimings, cardGood}
 use Rattle.rules.specs.Form.{Field, number, numberFrom, lastTag, cardWhole, valueOf, has, numberAt, timingOf, timingAt, cardOf, gapGood, fieldGood}
 use Rattle.rules.specs.FileReading.{CardRight}
 use Rattle.rules.proofs.Tests.{eq-cases, both-true}
@@ -114,7 +114,7 @@ module _ (fs : List Field) (r : CardRight fs) (w : cardWhole fs ≡ true) where
   unfolding fieldGood tagged timingAt
   timing-at t low high = ⊎-elim
       (λ (c : Came t fs).
-      rw (ne-eqb t 1 (omega arith), ne-eqb t 2 (omega arith), ne-eqb t 3 (omega arith), ne-eqb t 4 (omega arith), ne-eqb t 25 (omega arith)) at (each-good fs r t c))
+      rw (ne-eqb t 1 (omega arith), ne-eqb t 2 (omega arith), ne-eqb t 3 (omega arith), ne-eqb t 4 (omega arith), ne-eqb t 25 (omega arith), ne-eqb t 26 (omega arith)) at (each-good fs r t c))
       (λ (e : (valueOf t fs ≡ []) × (has t fs ≡ false)). rw (e .0) (unfold timingOf number numberFrom timingGood in refl))
       (not-came t fs)
 
@@ -133,6 +133,13 @@ module _ (fs : List Field) (r : CardRight fs) (w : cardWhole fs ≡ true) where
       (λ (e : (valueOf 25 fs ≡ []) × (has 25 fs ≡ false)). (rw (e .0) (unfold number numberFrom in refl), rw (e .1, and-false (has 19 fs))))
       (not-came 25 fs)
 
+  raise-good : raiseGood (numberAt 26 fs) ≡ true
+  unfolding fieldGood tagged numberAt
+  raise-good = ⊎-elim
+      (λ (c : Came 26 fs). each-good fs r 26 c)
+      (λ (e : (valueOf 26 fs ≡ []) × (has 26 fs ≡ false)). rw (e .0) (unfold number numberFrom raiseGood in refl))
+      (not-came 26 fs)
+
   pub card-good : cardGood (cardOf fs) ≡ true
   unfolding cardOf timings sleepTimings tagsFrom fieldGood tagged numberAt
   card-good = parts-good (cardOf fs) (record {
@@ -143,4 +150,5 @@ module _ (fs : List Field) (r : CardRight fs) (w : cardWhole fs ≡ true) where
     timed = timings-from 18 5 (omega arith) (omega arith);
     gap = gap-good .0;
     apart = gap-good .1;
+    raise = raise-good;
   })

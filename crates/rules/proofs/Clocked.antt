@@ -46,7 +46,7 @@ clock-start zero = unfold clock countedFrom in refl
 clock-start (suc t) = clock-suc [] t ∙ rw (clock-start t) (unfold counts levelBelow stopped in omega arith)
 
 -- ---- from a cycle that no entry comes after
-clock-up : (past : Past) (t u : ℕ) → t ≤ u → clock past t ≤ clock past u
+pub clock-up : (past : Past) (t u : ℕ) → t ≤ u → clock past t ≤ clock past u
 clock-up past t u h = omega (arith, N-up past (suc t) (suc u) (omega arith), N-clock past t, N-clock past u)
 
 pub clock-le : (past : Past) (t : ℕ) → clock past t ≤ t

@@ -5,6 +5,7 @@ use mathlib.Core.Path.{_≡_, refl, _∙_}
 use mathlib.Core.Logic.{_⊎_, inl, inr, ⊎-elim}
 use mathlib.Core.Bool.{Bool, true, false, cond, not, _&&_}
 use mathlib.Core.List.{List, [], _∷_, map}
+use mathlib.Core.Option.{some}
 use native.Mathlib.Nat.{zero-add, add-zero, add-suc}
 use native.Mathlib.Omega.{arith}
 use lib.Dec.{leb, ltb, eqb}
@@ -14,13 +15,14 @@ use Rattle.rules.specs.Bits.{on}
 use Rattle.rules.specs.Card.{Card}
 use Rattle.rules.specs.Commands.{nop, is, code, bare, carries, kindOf}
 use Rattle.rules.specs.Pins.{wrongBits}
-use Rattle.rules.specs.Levels.{Level, awake, powerDown, selfRefresh, deep, stopped, stays, levelAfter, plain, moved, rises, asleep, barred, rise, readAt, readPins, selected, readPair, readAs}
+use Rattle.rules.specs.Levels.{Level, awake, powerDown, selfRefresh, deep, stopped, stays, levelAfter, Read, plain, moved, rises, asleep, barred, clash, sensed, rise, readAt, readPins, readPair, readAs, senseAt, readMR4}
 use Rattle.rules.specs.Past.{Taken, Past, ofPart, levelAt, counterAt, isCounted, stampsWhere, countedStamps}
-use Rattle.rules.specs.Entries.{Entry, read, readAfter, commandOf, recordedAs, moveOf, taken, pastOver}
+use Rattle.rules.specs.Entries.{Body, pins, mr4, Entry, readBody, read, readAfter, commandOf, recordedAs, moveOf, mr4Of, taken, pastOver}
 use Rattle.rules.specs.Stretch.{countIn}
 use Rattle.rules.specs.Clock.{levelBelow, counts, countedFrom, clock}
-use Rattle.rules.proofs.Tests.{lt-cases, le-cases, bit-le}
-use Rattle.rules.proofs.Filtered.{kept-over}
+use Rattle.rules.proofs.Tests.{lt-cases, le-cases, bit-le, some-none}
+use Rattle.rules.proofs.PinReads.{pair-is}
+use Rattle.rules.proofs.Filtered.{mr4-nop, kept-over}
 use Rattle.rules.proofs.Rounds.{AllBelow, Rising, Less, less-where, below-more}
 
 -- ---- a later entry
@@ -37,6 +39,9 @@ module _ (e : Taken) (p : Past) where
   pub clock-other : (t : ℕ) → t ≤ e .stamp → clock (e ∷ p) t ≡ clock p t
   unfolding clock
   clock-other t h = counted-other 1 t (omega arith)
+
+  pub below-other : (t : ℕ) → t ≤ suc (e .stamp) → countedFrom (e ∷ p) 0 t ≡ countedFrom p 0 t
+  below-other t h = counted-other 0 t (omega arith)
 
   pub clocks-other : (ss : List ℕ) → Less (suc (e .stamp)) ss → map (clock (e ∷ p)) ss ≡ map (clock p) ss
   unfolding Less
@@ -155,22 +160,34 @@ nop-uncounted : (n : ℕ) → isCounted nop n ≡ true → ⊥
 unfolding isCounted is code kindOf carries bare
 nop-uncounted n h = let z : _≡_ {A = ℕ} 0 1 = cc in omega arith
 
+-- nor is a temperature counted
+pub sensed-uncounted : (r : Read) (v n : ℕ) → mr4Of r ≡ some v → isCounted (recordedAs r) n ≡ false
+unfolding mr4Of recordedAs
+sensed-uncounted (plain d) v n h = absurd (some-none h)
+sensed-uncounted (moved m) v n h = absurd (some-none h)
+sensed-uncounted asleep v n h = absurd (some-none h)
+sensed-uncounted barred v n h = absurd (some-none h)
+sensed-uncounted clash v n h = absurd (some-none h)
+sensed-uncounted (sensed w) v n h = unfold isCounted is code kindOf carries bare in refl
+
 -- two parts have no move of clock-enable
 pub pair-stays : (p : ℕ) → moveOf (readPair p) ≡ stays
-unfolding readPair selected moveOf
-pair-stays p = go (on p 21 && eqb (p / 2 ^ 23) 0) (on p 20) (on p 22)
-  where
-    go : (x y z : Bool) → moveOf (cond x (selected y z p) (plain wrongBits)) ≡ stays
-    go false y z = refl
-    go true true true = refl
-    go true true false = refl
-    go true false true = refl
-    go true false false = refl
+unfolding moveOf
+pair-stays = pair-is (λ r. moveOf r ≡ stays) (λ d. refl) refl
 
 module _ (card : Card) where
   pub start-orderly : Orderly card []
   unfolding Awake levelAt
   start-orderly = record { quiet = λ h. refl; awakes = tt }
+
+  pub mr4-stays : (x d : Bool) (l : Level) (v : ℕ) → moveOf (readMR4 x d l v) ≡ stays
+  unfolding readMR4 senseAt moveOf
+  mr4-stays x true l v = refl
+  mr4-stays false false l v = refl
+  mr4-stays true false awake v = refl
+  mr4-stays true false powerDown v = refl
+  mr4-stays true false selfRefresh v = refl
+  mr4-stays true false deep v = refl
 
   stays-quiet : (d : Bool) (l : Level) (p : ℕ) → moveOf (readAs false d l p) ≡ stays
   unfolding readAs readPins moveOf
@@ -182,12 +199,22 @@ module _ (card : Card) where
   awake-read l p n false d q h = q refl
   awake-read l p n true d q h = ⊎-elim (λ (e : l ≡ awake). e) (λ (e : recordedAs (readPins true l p) ≡ nop). absurd (nop-uncounted n (rw e at h))) (asleep-nop l p)
 
+  body-quiet : (b : Body) (l : Level) → card .sleeps ≡ false → moveOf (readBody card l b) ≡ stays
+  unfolding readBody
+  body-quiet (pins p) l h = rw h (stays-quiet (card .paired) l p)
+  body-quiet (mr4 v) l h = mr4-stays (card .sleeps) (card .paired) l v
+
+  body-awake : (b : Body) (l : Level) (n : ℕ) → (card .sleeps ≡ false → l ≡ awake) → isCounted (recordedAs (readBody card l b)) n ≡ true → l ≡ awake
+  unfolding readBody
+  body-awake (pins p) l n q h = awake-read l p n (card .sleeps) (card .paired) q h
+  body-awake (mr4 v) l n q h = absurd (nop-uncounted n (rw (mr4-nop (card .sleeps) (card .paired) l v) at h))
+
   -- behind a part's own entries
   pub taken-orderly : (past : Past) (e : Entry) → Orderly card past → Orderly card (taken card past e ∷ past)
   unfolding Awake levelAt taken read readAfter
   taken-orderly past e o = record {
-    quiet = λ h. rw (h, stays-quiet (card .paired) (levelAt past) (e .pins)) (unfold levelAfter in o .quiet h);
-    awakes = (awake-read (levelAt past) (e .pins) (counterAt past) (card .sleeps) (card .paired) (o .quiet), o .awakes);
+    quiet = λ h. rw (body-quiet (e .body) (levelAt past) h) (unfold levelAfter in o .quiet h);
+    awakes = (body-awake (e .body) (levelAt past) (counterAt past) (o .quiet), o .awakes);
   }
 
   -- each part's own
@@ -243,10 +270,10 @@ counted-all past c a (suc n) = rw (counted-all past c a n, all-count past c (a +
 
 -- so it is under a card without low clock-enable
 module _ (card : Card) (h : card .sleeps ≡ false) where
-  abbrev Quiet : Past → Type 0
+  abbrev pub Quiet : Past → Type 0
   Quiet own = Orderly card own × Counting own
 
-  quiet-next : (own : Past) (e : Entry) → Quiet own → Quiet (taken card own e ∷ own)
+  pub quiet-next : (own : Past) (e : Entry) → Quiet own → Quiet (taken card own e ∷ own)
   unfolding Counting stopped
   quiet-next own e q = let o = taken-orderly card own e (q .0) in (o, (rw (o .quiet h), q .1))
 

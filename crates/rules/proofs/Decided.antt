@@ -11,12 +11,13 @@ use lib.IntN.{ℤ, pos}
 use lib.Signed.{leZ, _≤ℤ_}
 use borrow.Author.Tests.{ltb-true, lt-ltb, leb-true, le-leb}
 use Rattle.rules.specs.Lists.{Every}
+use Rattle.rules.specs.Heat.{mr4Good}
 use Rattle.rules.specs.Pins.{good, wrongBits, reserved}
-use Rattle.rules.specs.Levels.{Read, plain, moved, asleep, barred, clash}
+use Rattle.rules.specs.Levels.{Read, plain, moved, asleep, barred, clash, sensed}
 use Rattle.rules.specs.Past.{Past}
 use Rattle.rules.specs.Folds.{Found, Rule, orElse, firstOf, bound, firstBroken}
 use Rattle.rules.specs.Account.{Terms, failing, Book, ledgerOn, sinceOn, failingOn, firstOn, failingIn, firstIn}
-use Rattle.rules.specs.Checks.{Refusal, refusal, unless, named, isWrong, isReserved, isBarred, isClash, above, notBelow}
+use Rattle.rules.specs.Checks.{Refusal, refusal, unless, named, isWrong, isReserved, isBarred, isClash, codeGood, above, notBelow}
 use Rattle.rules.specs.Reading.{
   Check,
   AllPass,
@@ -109,6 +110,7 @@ not-wrong (moved m) = (λ e q. let z : _≡_ {A = ℕ} 0 1 = cc in omega arith, 
 not-wrong asleep = (λ e q. let z : _≡_ {A = ℕ} 0 1 = cc in omega arith, λ f. refl)
 not-wrong barred = (λ e q. let z : _≡_ {A = ℕ} 0 1 = cc in omega arith, λ f. refl)
 not-wrong clash = (λ e q. let z : _≡_ {A = ℕ} 0 1 = cc in omega arith, λ f. refl)
+not-wrong (sensed v) = (λ e q. let z : _≡_ {A = ℕ} 0 1 = cc in omega arith, λ f. refl)
 
 pub not-reserved : (r : Read) → (not (isReserved r) ≡ true) ↔ (¬ (r ≡ plain reserved))
 unfolding isReserved
@@ -119,6 +121,7 @@ not-reserved (moved m) = (λ e q. let z : _≡_ {A = ℕ} 0 1 = cc in omega arit
 not-reserved asleep = (λ e q. let z : _≡_ {A = ℕ} 0 1 = cc in omega arith, λ f. refl)
 not-reserved barred = (λ e q. let z : _≡_ {A = ℕ} 0 1 = cc in omega arith, λ f. refl)
 not-reserved clash = (λ e q. let z : _≡_ {A = ℕ} 0 1 = cc in omega arith, λ f. refl)
+not-reserved (sensed v) = (λ e q. let z : _≡_ {A = ℕ} 0 1 = cc in omega arith, λ f. refl)
 
 pub not-barred : (r : Read) → (not (isBarred r) ≡ true) ↔ (¬ (r ≡ barred))
 unfolding isBarred
@@ -127,6 +130,7 @@ not-barred (moved m) = (λ e q. let z : _≡_ {A = ℕ} 0 1 = cc in omega arith,
 not-barred asleep = (λ e q. let z : _≡_ {A = ℕ} 0 1 = cc in omega arith, λ f. refl)
 not-barred barred = (λ e q. let z : _≡_ {A = ℕ} 0 1 = cc in omega arith, λ f. absurd (f refl))
 not-barred clash = (λ e q. let z : _≡_ {A = ℕ} 0 1 = cc in omega arith, λ f. refl)
+not-barred (sensed v) = (λ e q. let z : _≡_ {A = ℕ} 0 1 = cc in omega arith, λ f. refl)
 
 pub not-clash : (r : Read) → (not (isClash r) ≡ true) ↔ (¬ (r ≡ clash))
 unfolding isClash
@@ -135,6 +139,16 @@ not-clash (moved m) = (λ e q. let z : _≡_ {A = ℕ} 0 1 = cc in omega arith, 
 not-clash asleep = (λ e q. let z : _≡_ {A = ℕ} 0 1 = cc in omega arith, λ f. refl)
 not-clash barred = (λ e q. let z : _≡_ {A = ℕ} 0 1 = cc in omega arith, λ f. refl)
 not-clash clash = (λ e q. let z : _≡_ {A = ℕ} 0 1 = cc in omega arith, λ f. absurd (f refl))
+not-clash (sensed v) = (λ e q. let z : _≡_ {A = ℕ} 0 1 = cc in omega arith, λ f. refl)
+
+pub code-good : (r : Read) → (codeGood r ≡ true) ↔ ((v : ℕ) → r ≡ sensed v → mr4Good v ≡ true)
+unfolding codeGood
+code-good (plain d) = (λ e v q. let z : _≡_ {A = ℕ} 0 1 = cc in absurd (omega arith), λ f. refl)
+code-good (moved m) = (λ e v q. let z : _≡_ {A = ℕ} 0 1 = cc in absurd (omega arith), λ f. refl)
+code-good asleep = (λ e v q. let z : _≡_ {A = ℕ} 0 1 = cc in absurd (omega arith), λ f. refl)
+code-good barred = (λ e v q. let z : _≡_ {A = ℕ} 0 1 = cc in absurd (omega arith), λ f. refl)
+code-good clash = (λ e v q. let z : _≡_ {A = ℕ} 0 1 = cc in absurd (omega arith), λ f. refl)
+code-good (sensed w) = (λ e v q. let z : w ≡ v = cc in ap mr4Good (sym z) ∙ e, λ f. f w refl)
 
 -- ---- the delay rules
 module _ {Q X : Type 0} (look : Q → Option (Found X)) where

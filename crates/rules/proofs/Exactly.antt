@@ -8,8 +8,8 @@ use native.Mathlib.Omega.{arith}
 use lib.IntN.{ℤ}
 use lib.ListN.{length}
 use Rattle.rules.specs.Card.{Card}
-use Rattle.rules.specs.Units.{delaysOf}
-use Rattle.rules.specs.Past.{Past, counterAt}
+use Rattle.rules.specs.Heat.{delaysAt}
+use Rattle.rules.specs.Past.{Past, mr4At, counterAt}
 use Rattle.rules.specs.Entries.{Entry, viewOf, viewFor, ownFor, othersFor, readFor, moveOf, judgedAs, pastWith, pastOver}
 use Rattle.rules.specs.Delays.{lookBoth, find, delayRules}
 use Rattle.rules.specs.Account.{lpddr3}
@@ -26,6 +26,7 @@ use Rattle.rules.proofs.Decided.{
   not-reserved,
   not-barred,
   not-clash,
+  code-good,
   decides-delays,
   decides-at,
   decides-below,
@@ -53,7 +54,8 @@ module _ (card : Card) where
       & decides-plain 8 _ _ (λ h. h, λ h. h)
       & decides-plain 16 _ _ (not-barred r)
       & decides-plain 9 _ _ (λ h. h, λ h. h)
-      & decides-delays (lookBoth (find card own) (find card (othersFor card past e))) (delayRules (delaysOf card) (judgedAs r) (moveOf r) (counterAt own)) (e .stamp)
+      & decides-plain 26 _ _ (code-good r)
+      & decides-delays (lookBoth (find card own) (find card (othersFor card past e))) (delayRules (delaysAt card (mr4At own)) (judgedAs r) (moveOf r) (counterAt own)) (e .stamp)
       & decides-at lpddr3 (booksOf card (pastWith card past e)) (e .stamp)
       & tt
 

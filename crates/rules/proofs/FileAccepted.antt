@@ -10,12 +10,11 @@ use lib.IntN.{ℤ}
 use lib.ListN.{length-map}
 use Rattle.rules.specs.Lists.{Every}
 use Rattle.rules.specs.Card.{Card}
-use Rattle.rules.specs.Units.{interval}
 use Rattle.rules.specs.Past.{Past, ofPart, refreshStamps}
 use Rattle.rules.specs.Entries.{pastOf}
 use Rattle.rules.specs.Reading.{AllPass, endReads}
-use Rattle.rules.specs.Clock.{countedFrom}
-use Rattle.rules.specs.Stretch.{countIn, Took}
+use Rattle.rules.specs.Clock.{countedFrom, intervalBelow}
+use Rattle.rules.specs.Stretch.{countIn, Free, Took}
 use Rattle.rules.specs.Form.{Field, bytesOf, cardWhole, cardOf, entryOf, endOf}
 use Rattle.rules.specs.File.{FileVerdict, acceptedAt, begun, judgeFile}
 use Rattle.rules.specs.FileReading.{RightForm, cardBytes, entriesBytes, Ends, Says, AcceptedFile}
@@ -24,10 +23,8 @@ use Rattle.rules.proofs.Filtered.{IsPart}
 use Rattle.rules.proofs.Clocks.{counted-all}
 use Rattle.rules.proofs.Refreshed.{refreshed, all-counted}
 use Rattle.rules.proofs.Groups.{every-group, in-a-row}
-use Rattle.rules.proofs.Rounding.{interval-positive}
 use Rattle.rules.proofs.FileSteps.{any-form, end-tag}
 use Rattle.rules.proofs.FileExactly.{file-iff}
-use Rattle.rules.proofs.CardRead.{card-good}
 
 every-map : {A : Type 0} {P Q : A → Type 0} → ((x : A) → P x → Q x) → (xs : List A) → Every P xs → Every Q xs
 unfolding Every
@@ -118,28 +115,26 @@ module _ {bytes : List ℕ} {m n : ℕ} {l : List ℤ} (a : AcceptedFile bytes m
   abbrev pub ownPast : ℕ → Past
   ownPast p = ofPart p pastIn
 
-  -- each part, in the k cycles from cycle c on, of which so many are counted
-  pub refreshed-file : (p : ℕ) → IsPart cardIn p → (b c k : ℕ) → b < 8 → c + k ≤ endOf (a .z) + 1 →
-      countedFrom (ownPast p) c k / interval cardIn - 17 ≤ countIn c (c + k) (refreshStamps b (ownPast p))
+  -- each part, in the k cycles from cycle c on, of which so many are counted and in which no field lies
+  pub refreshed-file : (p : ℕ) → IsPart cardIn p → (b c k : ℕ) → b < 8 → c + k ≤ endOf (a .z) + 1 → Free (ownPast p) c k →
+      countedFrom (ownPast p) c k / intervalBelow cardIn c (ownPast p) - 17 ≤ countIn c (c + k) (refreshStamps b (ownPast p))
   refreshed-file = refreshed cardIn (map entryOf (a .es)) (endOf (a .z)) m n l (a .list)
 
   -- all of them, where the card has no tags 19 to 22
   pub counted-file : cardIn .sleeps ≡ false → (p c k : ℕ) → countedFrom (ownPast p) c k ≡ k
   counted-file h p = counted-all (ownPast p) (all-counted cardIn (map entryOf (a .es)) h p)
 
-  positive : 0 < interval cardIn
-  positive = interval-positive cardIn (card-good (a .fs) (a .card) (a .whole))
-
   module _ (p : ℕ) (ip : IsPart cardIn p) (first b g : ℕ) (hb : b < 8) (hg : g < cardIn .groups) where
     abbrev TakenAt : ℕ → Type 0
     TakenAt s = Took (cardIn .groups) first g (refreshStamps b (ownPast p)) s
 
     -- the group is taken in every such stretch
-    pub every-group-file : (c k : ℕ) → c + k ≤ endOf (a .z) + 1 → (cardIn .groups + 17) * interval cardIn ≤ countedFrom (ownPast p) c k →
+    pub every-group-file : (c k : ℕ) → c + k ≤ endOf (a .z) + 1 → Free (ownPast p) c k →
+        (cardIn .groups + 17) * intervalBelow cardIn c (ownPast p) ≤ countedFrom (ownPast p) c k →
         (s : ℕ) × (c ≤ s) × (s < c + k) × TakenAt s
-    every-group-file = every-group cardIn (map entryOf (a .es)) (endOf (a .z)) m n l (a .list) p ip positive first b g hb hg
+    every-group-file = every-group cardIn (map entryOf (a .es)) (endOf (a .z)) m n l (a .list) p ip first b g hb hg
 
     -- two takings with none between
-    pub in-a-row-file : (s t : ℕ) → TakenAt s → TakenAt t → s < t → ((u : ℕ) → TakenAt u → (u ≤ s) ⊎ (t ≤ u)) →
-        countedFrom (ownPast p) (suc s) (t - s) ≤ (cardIn .groups + 17) * interval cardIn
-    in-a-row-file = in-a-row cardIn (map entryOf (a .es)) (endOf (a .z)) m n l (a .list) p ip positive first b g hb hg
+    pub in-a-row-file : (s t : ℕ) → TakenAt s → TakenAt t → s < t → ((u : ℕ) → TakenAt u → (u ≤ s) ⊎ (t ≤ u)) → Free (ownPast p) (suc s) (t - suc s) →
+        countedFrom (ownPast p) (suc s) (t - s) ≤ (cardIn .groups + 17) * intervalBelow cardIn (suc s) (ownPast p)
+    in-a-row-file = in-a-row cardIn (map entryOf (a .es)) (endOf (a .z)) m n l (a .list) p ip first b g hb hg

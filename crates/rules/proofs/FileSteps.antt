@@ -22,6 +22,7 @@ use Rattle.rules.specs.Form.{
   endsGroup,
   beginsGroup,
   cardWhole,
+  ofEntry,
   ofTrace,
   _upTo_,
   mayFollow,
@@ -43,7 +44,7 @@ use Rattle.rules.proofs.FileHeads.{HeadSays, is-whole, is-cut, is-bad-t
 pub data StepSays (fs : List Field) (past : Past) (at : ℕ) : List ℕ → Step → Type 0 where
   card-on : (f : Field) (rest : List ℕ) → RightForm (begun past) fs f → ofTrace (f .tag) ≡ false → fieldGood fs f ≡ true →
       StepSays fs past at (bytesOf f ++ rest) (goesOn (f ∷ fs) past (at + sizeOf f) rest)
-  entry-on : (f : Field) (rest : List ℕ) → RightForm (begun past) fs f → cardWhole fs ≡ true → f .tag ≡ 32 → AllPass (entryReads (cardOf fs) past (entryOf f)) →
+  entry-on : (f : Field) (rest : List ℕ) → RightForm (begun past) fs f → cardWhole fs ≡ true → ofEntry (f .tag) ≡ true → AllPass (entryReads (cardOf fs) past (entryOf f)) →
       StepSays fs past at (bytesOf f ++ rest) (goesOn fs (pastWith (cardOf fs) past (entryOf f)) (at + sizeOf f) rest)
   stops : {bs : List ℕ} {v : FileVerdict} → Ends fs past at bs v → StepSays fs past at bs (ends v)
 
@@ -76,13 +77,21 @@ pub no-more : (fs : List Field) (f : Field) → RightForm true fs f → cardWhol
 unfolding mayCome mayFollow cardWhole
 no-more fs f h w o = let e : false ≡ true = rw (w, o) at (h .tag) in let z : _≡_ {A = ℕ} 0 1 = cc in omega arith
 
-pub entry-tag : (t : ℕ) → t ≡ 32 → ofTrace t ≡ true
+pub entry-tag : (t : ℕ) → ofEntry t ≡ true → ofTrace t ≡ true
 unfolding ofTrace
-entry-tag t e = rw (eq-eqb t 32 e)
+entry-tag t e = rw e
 
 pub end-tag : (t : ℕ) → t ≡ 33 → ofTrace t ≡ true
-unfolding ofTrace
+unfolding ofTrace ofEntry
 end-tag t e = rw e
+
+-- an entry's tag is 32 or 34
+pub entry-high : (t : ℕ) → ofEntry t ≡ true → 31 < t
+unfolding ofEntry
+entry-high t e = ⊎-elim
+    (λ (p : (t ≡ 32) × (eqb t 32 ≡ true)). omega (arith, p .0))
+    (λ (p : (t ≡ 32 → ⊥) × (eqb t 32 ≡ false)). let q = eqb-true t 34 (rw (p .1) at e) in omega (arith, q))
+    (eq-cases t 32)
 
 -- the tags of a right card lie within the table's groups
 within-next : (fs : List Field) (t : ℕ) → Follows fs t → (fs ≡ []) ⊎ Within groups (lastTag fs) → Within groups t
@@ -120,30 +129,25 @@ tag-below fs r = ⊎-elim
     (within fs r)
 
 -- a field of the card that may come has a tag of the table
-pub card-tag : {b : Bool} (fs : List Field) (f : Field) → CardRight fs → RightForm b fs f → ofTrace (f .tag) ≡ false → (1 ≤ f .tag) × ((f .tag ≤ 22) ⊎ (f .tag ≡ 25))
+pub card-tag : {b : Bool} (fs : List Field) (f : Field) → CardRight fs → RightForm b fs f → ofTrace (f .tag) ≡ false → (1 ≤ f .tag) × ((f .tag ≤ 22) ⊎ ((f .tag ≡ 25) ⊎ (f .tag ≡ 26)))
 unfolding Within groups _upTo_
 card-tag fs f r h o = bounds (f .tag) (within-next fs (f .tag) (follows f fs h o) (within fs r))
   where
-    bounds : (t : ℕ) → Within groups t → (1 ≤ t) × ((t ≤ 22) ⊎ (t ≡ 25))
+    bounds : (t : ℕ) → Within groups t → (1 ≤ t) × ((t ≤ 22) ⊎ ((t ≡ 25) ⊎ (t ≡ 26)))
     bounds t (inl p) = (p .0, inl (omega arith))
     bounds t (inr (inl p)) = (omega arith, inl (p .1))
-    bounds t (inr (inr (inl p))) = (omega arith, inr (omega arith))
-    bounds t (inr (inr (inr p))) = absurd p
+    bounds t (inr (inr (inl p))) = (omega arith, inr (inl (omega arith)))
+    bounds t (inr (inr (inr (inl p)))) = (omega arith, inr (inr (omega arith)))
+    bounds t (inr (inr (inr (inr p)))) = absurd p
 
 data Kind (fs : List Field) (f : Field) : Type 0 where
   of-card : ofTrace (f .tag) ≡ false → Kind fs f
-  of-entry : cardWhole fs ≡ true → f .tag ≡ 32 → Kind fs f
+  of-entry : cardWhole fs ≡ true → ofEntry (f .tag) ≡ true → Kind fs f
   of-end : cardWhole fs ≡ true → f .tag ≡ 33 → Kind fs f
 
 kind : {b : Bool} (fs : List Field) (f : Field) → CardRight fs → RightForm b fs f → Kind fs f
 unfolding ofTrace mayCome mayFollow cardWhole
-kind {b} fs f r h = ⊎-elim
-    (λ (p : (f .tag ≡ 32) × (eqb (f .tag) 32 ≡ true)). of-entry (behind (omega (arith, p .0))) (p .0))
-    (λ (p : (f .tag ≡ 32 → ⊥) × (eqb (f .tag) 32 ≡ false)). ⊎-elim
-    (λ (q : (f .tag ≡ 33) × (eqb (f .tag) 33 ≡ true)). of-end (behind (omega (arith, q .0))) (q .0))
-    (λ (q : (f .tag ≡ 33 → ⊥) × (eqb (f .tag) 33 ≡ false)). of-card (rw (p .1, q .1)))
-    (eq-cases (f .tag) 33))
-    (eq-cases (f .tag) 32)
+kind {b} fs f r h = by (ofEntry (f .tag)) refl
   where
     behind : 31 < f .tag → cardWhole fs ≡ true
     behind l = go (cardWhole fs) refl
@@ -155,10 +159,17 @@ kind {b} fs f r h = ⊎-elim
             never : f .tag ≡ suc (lastTag fs) → suc (lastTag fs) < 32 → ⊥
             never e k = omega arith
 
+    by : (x : Bool) → ofEntry (f .tag) ≡ x → Kind fs f
+    by true p = of-entry (behind (entry-high (f .tag) p)) p
+    by false p = ⊎-elim
+        (λ (q : (f .tag ≡ 33) × (eqb (f .tag) 33 ≡ true)). of-end (behind (omega (arith, q .0))) (q .0))
+        (λ (q : (f .tag ≡ 33 → ⊥) × (eqb (f .tag) 33 ≡ false)). of-card (rw (p, q .1)))
+        (eq-cases (f .tag) 33)
+
 module _ (fs : List Field) (past : Past) (at : ℕ) where
   card-step : (f : Field) (rest : List ℕ) → ofTrace (f .tag) ≡ false → byHead fs past at (whole f rest) ≡ cardStep fs past at f rest
   unfolding byHead ofTrace
-  card-step f rest o = go (eqb (f .tag) 32) (eqb (f .tag) 33) o
+  card-step f rest o = go (ofEntry (f .tag)) (eqb (f .tag) 33) o
     where
       go : (x y : Bool) → (x || y) ≡ false →
           cond x (entryStep fs past at f rest) (cond y (endStep fs past at f rest) (cardStep fs past at f rest)) ≡ cardStep fs past at f rest
@@ -166,13 +177,13 @@ module _ (fs : List Field) (past : Past) (at : ℕ) where
       go false true e = let z : _≡_ {A = ℕ} 0 1 = cc in absurd (omega arith)
       go true y e = let z : _≡_ {A = ℕ} 0 1 = cc in absurd (omega arith)
 
-  entry-step : (f : Field) (rest : List ℕ) → f .tag ≡ 32 → byHead fs past at (whole f rest) ≡ entryStep fs past at f rest
+  entry-step : (f : Field) (rest : List ℕ) → ofEntry (f .tag) ≡ true → byHead fs past at (whole f rest) ≡ entryStep fs past at f rest
   unfolding byHead
-  entry-step f rest t = rw (eq-eqb (f .tag) 32 t)
+  entry-step f rest t = rw t
 
   end-step : (f : Field) (rest : List ℕ) → f .tag ≡ 33 → byHead fs past at (whole f rest) ≡ endStep fs past at f rest
-  unfolding byHead
-  end-step f rest t = rw (ne-eqb (f .tag) 32 (omega arith), eq-eqb (f .tag) 33 t)
+  unfolding byHead ofEntry
+  end-step f rest t = rw (ne-eqb (f .tag) 32 (omega arith), ne-eqb (f .tag) 34 (omega arith), eq-eqb (f .tag) 33 t)
 
   card-says : (f : Field) (rest : List ℕ) → RightForm (begun past) fs f → ofTrace (f .tag) ≡ false → StepSays fs past at (bytesOf f ++ rest) (cardStep fs past at f rest)
   unfolding cardStep
@@ -183,7 +194,7 @@ module _ (fs : List Field) (past : Past) (at : ℕ) where
       go true g = card-on f rest h w g
       go false g = stops (four f rest h w g)
 
-  entry-says : (f : Field) (rest : List ℕ) → RightForm (begun past) fs f → cardWhole fs ≡ true → f .tag ≡ 32 →
+  entry-says : (f : Field) (rest : List ℕ) → RightForm (begun past) fs f → cardWhole fs ≡ true → ofEntry (f .tag) ≡ true →
       StepSays fs past at (bytesOf f ++ rest) (entryStep fs past at f rest)
   unfolding entryStep orRefused
   entry-says f rest h w t = go (entryRefusal (cardOf fs) past (entryOf f)) refl

@@ -1,36 +1,77 @@
 -- A part's own entries: what holds of all entries holds of them, and an entry of the part is taken behind them.
-use Prim.Native.Nat.{ℕ}
+use Prim.Native.Nat.{ℕ, _<_}
 use mathlib.Core.Path.{_≡_, refl, sym, subst}
 use mathlib.Core.Logic.{⊎-elim}
 use mathlib.Core.Bool.{Bool, true, false, cond, _||_}
 use mathlib.Core.List.{List, [], _∷_, map}
 use native.Mathlib.Omega.{arith}
 use lib.Dec.{eqb}
-use borrow.Author.Tests.{eqb-true, eq-eqb}
+use borrow.Author.Tests.{ltb-true, eqb-true, eq-eqb}
 use Rattle.rules.specs.Lists.{Every, all, isOneOf}
 use Rattle.rules.specs.Bits.{on}
 use Rattle.rules.specs.Card.{Card}
-use Rattle.rules.specs.Whose.{Whose, sole, part, neither, isOf, partOf, bySelects, whose, parts}
-use Rattle.rules.specs.Past.{Past, ofPart}
-use Rattle.rules.specs.Entries.{Entry, whoseOf, partIn, ownFor, taken, takenFor, pastWith, pastOver}
+use Rattle.rules.specs.Commands.{nop, is, code, bare, carries, kindOf}
+use Rattle.rules.specs.Whose.{isOf, partOf, bySelects, whose, parts}
+use Rattle.rules.specs.Levels.{Level, awake, powerDown, selfRefresh, deep, senseAt, readMR4}
+use Rattle.rules.specs.Past.{Past, ofPart, levelAt, counterAt, isCounted}
+use Rattle.rules.specs.Entries.{Body, pins, mr4, Entry, readBody, read, readAfter, readFor, whoseBody, whoseOf, partIn, ownFor, recordedAs, taken, takenFor, pastWith, pastOver}
 use Rattle.rules.specs.Lent.{hasPart}
 use Rattle.rules.proofs.Tests.{eq-cases, both-true}
 use Rattle.rules.proofs.Rounds.{AllBelow, Rising}
 
--- the part that judges an entry which is among part p's own is p
-pub is-part : (p : ℕ) (w : Whose) → isOf p w ≡ true → partOf w ≡ p
-unfolding isOf partOf
-is-part p sole h = sym (eqb-true p 0 h)
-is-part p (part q) h = sym (eqb-true p q h)
-is-part p neither h = let z : _≡_ {A = ℕ} 0 1 = cc in absurd (omega arith)
+-- the part that judges pins which are among part p's own is p
+pub pins-part : (p : ℕ) (paired : Bool) (x : ℕ) → isOf p (whose paired x) ≡ true → partOf (whose paired x) ≡ p
+unfolding isOf partOf whose bySelects
+pins-part p false x h = sym (eqb-true p 0 h)
+pins-part p true x h = go (on x 20) (on x 22) h
+  where
+    go : (a b : Bool) → isOf p (bySelects a b) ≡ true → partOf (bySelects a b) ≡ p
+    go true true h = let z : _≡_ {A = ℕ} 0 1 = cc in absurd (omega arith)
+    go true false h = sym (eqb-true p 1 h)
+    go false true h = sym (eqb-true p 0 h)
+    go false false h = let z : _≡_ {A = ℕ} 0 1 = cc in absurd (omega arith)
 
-own-for : (card : Card) (past : Past) (e : Entry) (p : ℕ) → isOf p (takenFor card past e .whose) ≡ true → takenFor card past e ≡ taken card (ofPart p past) e
-unfolding takenFor ownFor partIn taken
-own-for card past e p h = rw (is-part p (whoseOf card e) h)
+-- a temperature is recorded as NOP, whatever the level
+pub mr4-nop : (sleeps paired : Bool) (l : Level) (v : ℕ) → recordedAs (readMR4 sleeps paired l v) ≡ nop
+unfolding readMR4 senseAt recordedAs
+mr4-nop sleeps true l v = refl
+mr4-nop false false l v = refl
+mr4-nop true false awake v = refl
+mr4-nop true false powerDown v = refl
+mr4-nop true false selfRefresh v = refl
+mr4-nop true false deep v = refl
 
-pub own-part : (card : Card) (past : Past) (e : Entry) (p : ℕ) → isOf p (whoseOf card e) ≡ true → ownFor card past e ≡ ofPart p past
-unfolding ownFor partIn
-own-part card past e p h = rw (is-part p (whoseOf card e) h)
+-- an entry among part p's own is read, and counted, as that part's entries say: one of both parts by none of them
+module _ (card : Card) (past : Past) (p : ℕ) where
+  body-read : (b : Body) → isOf p (whoseBody (card .paired) b) ≡ true →
+      readBody card (levelAt (ofPart (partOf (whoseBody (card .paired) b)) past)) b ≡ readBody card (levelAt (ofPart p past)) b
+  unfolding whoseBody readBody
+  body-read (pins x) h = rw (pins-part p (card .paired) x h)
+  body-read (mr4 v) h = go (card .paired) h
+    where
+      go : (d : Bool) → isOf p (whoseBody d (mr4 v)) ≡ true →
+          readMR4 (card .sleeps) d (levelAt (ofPart (partOf (whoseBody d (mr4 v))) past)) v ≡ readMR4 (card .sleeps) d (levelAt (ofPart p past)) v
+      go true h = unfold readMR4 in refl
+      go false h = unfold isOf partOf in rw (eqb-true p 0 h)
+
+  body-counted : (b : Body) → isOf p (whoseBody (card .paired) b) ≡ true → (l : Level) →
+      isCounted (recordedAs (readBody card l b)) (counterAt (ofPart (partOf (whoseBody (card .paired) b)) past)) ≡ isCounted (recordedAs (readBody card l b)) (counterAt (ofPart p past))
+  unfolding whoseBody readBody
+  body-counted (pins x) h l = rw (pins-part p (card .paired) x h)
+  body-counted (mr4 v) h l = rw (mr4-nop (card .sleeps) (card .paired) l v) (unfold isCounted is code kindOf carries bare in refl)
+
+  pub own-read : (e : Entry) → isOf p (whoseOf card e) ≡ true → readFor card past e ≡ readAfter card (ofPart p past) e
+  unfolding readFor readAfter read ownFor partIn whoseOf
+  own-read e h = body-read (e .body) h
+
+  pub own-counted : (e : Entry) → isOf p (whoseOf card e) ≡ true → (l : Level) →
+      isCounted (recordedAs (read card l e)) (counterAt (ownFor card past e)) ≡ isCounted (recordedAs (read card l e)) (counterAt (ofPart p past))
+  unfolding read ownFor partIn whoseOf
+  own-counted e h l = body-counted (e .body) h l
+
+  own-for : (e : Entry) → isOf p (takenFor card past e .whose) ≡ true → takenFor card past e ≡ taken card (ofPart p past) e
+  unfolding takenFor taken
+  own-for e h = unfold readFor in rw (own-read e h)
 
 -- a part of the trace
 abbrev pub IsPart : Card → ℕ → Type 0
@@ -83,13 +124,31 @@ pub judging-part : (card : Card) (e : Entry) → IsPart card (partIn card e)
 unfolding hasPart parts partIn whoseOf
 judging-part card e = go (card .paired)
   where
-    go : (x : Bool) → isOneOf (cond x (0 ∷ 1 ∷ []) (0 ∷ [])) (partOf (whose x (e .pins))) ≡ true
-    go true = unfold whose in select-part (on (e .pins) 20) (on (e .pins) 22)
-    go false = unfold whose partOf isOneOf in refl
+    go : (x : Bool) → isOneOf (cond x (0 ∷ 1 ∷ []) (0 ∷ [])) (partOf (whoseBody x (e .body))) ≡ true
+    go x = by x (e .body)
+      where
+        by : (x : Bool) (b : Body) → isOneOf (cond x (0 ∷ 1 ∷ []) (0 ∷ [])) (partOf (whoseBody x b)) ≡ true
+        by true (pins p) = unfold whoseBody whose in select-part (on p 20) (on p 22)
+        by false (pins p) = unfold whoseBody whose partOf isOneOf in refl
+        by true (mr4 v) = unfold whoseBody partOf isOneOf in refl
+        by false (mr4 v) = unfold whoseBody partOf isOneOf in refl
+
+one-of-two : (p : ℕ) → p < 2 → isOneOf (0 ∷ 1 ∷ []) p ≡ true
+unfolding isOneOf
+one-of-two p l = ⊎-elim
+    (λ (q : (0 ≡ p) × (eqb 0 p ≡ true)). rw (q .1))
+    (λ (q : (0 ≡ p → ⊥) × (eqb 0 p ≡ false)). rw (q .1, eq-eqb 1 p (omega (arith, l, q .0))))
+    (eq-cases 0 p)
 
 pub own-is-part : (card : Card) (e : Entry) (p : ℕ) → isOf p (whoseOf card e) ≡ true → IsPart card p
-unfolding partIn
-own-is-part card e p h = subst (IsPart card) (is-part p (whoseOf card e) h) (unfold partIn in judging-part card e)
+unfolding hasPart parts whoseOf
+own-is-part card e p h = go (card .paired) (e .body) h
+  where
+    go : (x : Bool) (b : Body) → isOf p (whoseBody x b) ≡ true → isOneOf (cond x (0 ∷ 1 ∷ []) (0 ∷ [])) p ≡ true
+    go true (pins q) h = subst (λ (y : ℕ). isOneOf (0 ∷ 1 ∷ []) y ≡ true) (pins-part p true q (unfold whoseBody in h)) (unfold whose in select-part (on q 20) (on q 22))
+    go false (pins q) h = unfold whoseBody whose isOf isOneOf in rw (eqb-true p 0 h)
+    go true (mr4 v) h = one-of-two p (ltb-true p 2 (unfold whoseBody isOf in h))
+    go false (mr4 v) h = unfold whoseBody isOf isOneOf in rw (eqb-true p 0 h)
 
 -- ---- after an entry
 module _ (card : Card) (p : ℕ) where
@@ -99,7 +158,7 @@ module _ (card : Card) (p : ℕ) where
     where
       go : (x : Bool) → isOf p (takenFor card past e .whose) ≡ x →
           cond (isOf p (takenFor card past e .whose)) (takenFor card past e ∷ ofPart p past) (ofPart p past) ≡ cond x (taken card (ofPart p past) e ∷ ofPart p past) (ofPart p past)
-      go true h = rw (h, own-for card past e p h)
+      go true h = rw (h, own-for card past p e h)
       go false h = rw h
 
   -- what an entry of the part's own keeps of them, any run of entries keeps

@@ -1,5 +1,6 @@
 -- Demand 3's consequence: where each refresh of a bank takes the next of its R row groups in turn, from any first group, every row group is taken in
--- every stretch of (R + 17)·I counted cycles of an accepted trace, for each part, and two takings of one group in a row are at most that far apart.
+-- every stretch of (R + 17)·I counted cycles of an accepted trace in which no temperature field lies, for each part, and two takings of one group in a row with
+-- no such field between are at most that far apart. I is the interval in force before the stretch.
 use Prim.Native.Nat.{ℕ, suc, _+_, _*_, _-_, _/_, _%_, _≤_, _<_}
 use mathlib.Core.Path.{_≡_, refl, ap, _∙_, subst}
 use mathlib.Core.Logic.{_⊎_, inl, inr, ⊎-elim}
@@ -12,17 +13,17 @@ use lib.Dec.{ltb, eqb}
 use lib.IntN.{ℤ}
 use lib.ListN.{length}
 use Rattle.rules.specs.Card.{Card}
-use Rattle.rules.specs.Units.{interval}
-use Rattle.rules.specs.Past.{ofPart, refreshes, refreshStamps}
+use Rattle.rules.specs.Past.{Past, ofPart, mr4At, refreshes, refreshStamps}
 use Rattle.rules.specs.Entries.{Entry, pastOf}
 use Rattle.rules.specs.Verdict.{accepted, judge}
-use Rattle.rules.specs.Clock.{countedFrom}
-use Rattle.rules.specs.Stretch.{countIn, Took}
+use Rattle.rules.specs.Clock.{countedFrom, pastBelow, intervalBelow}
+use Rattle.rules.specs.Stretch.{countIn, Free, Took}
 use Rattle.rules.proofs.Tests.{lt-cases, eq-cases}
 use Rattle.rules.proofs.Counted.{below, count-below}
 use Rattle.rules.proofs.Rounds.{Less, Falling, less-where, falling-where}
 use Rattle.rules.proofs.Filtered.{IsPart}
 use Rattle.rules.proofs.Clocks.{one-at-most, Counting, counted-all}
+use Rattle.rules.proofs.Beats.{interval-least}
 use Rattle.rules.proofs.Refreshed.{traced, refreshed}
 
 below-all : (m n : ℕ) (ss : List ℕ) → m ≤ n → Less m ss → below n ss ≡ length ss
@@ -104,43 +105,49 @@ module _ (R first g : ℕ) where
   took-less m (x ∷ xs) l s (inr t) = took-less m xs (l .1) s t
 
 module _ (card : Card) (es : List Entry) (end m n : ℕ) (l : List ℤ) (e : judge card es end ≡ accepted m n l) (p : ℕ) (ip : IsPart card p)
-    (positive : 0 < interval card)
     (first b g : ℕ) (hb : b < 8) (hg : g < card .groups) where
+  abbrev own : Past
+  own = ofPart p (pastOf card es)
+
   abbrev Taken-at : ℕ → Type 0
-  Taken-at s = Took (card .groups) first g (refreshStamps b (ofPart p (pastOf card es))) s
+  Taken-at s = Took (card .groups) first g (refreshStamps b own) s
+
+  positive : (a : ℕ) → 0 < intervalBelow card a own
+  unfolding intervalBelow
+  positive a = interval-least card (mr4At (pastBelow a own))
 
   -- the group is taken in every stretch of n cycles that has so many counted ones
-  pub every-group : (a n : ℕ) → a + n ≤ end + 1 → (card .groups + 17) * interval card ≤ countedFrom (ofPart p (pastOf card es)) a n →
+  pub every-group : (a n : ℕ) → a + n ≤ end + 1 → Free own a n → (card .groups + 17) * intervalBelow card a own ≤ countedFrom own a n →
       (s : ℕ) × (a ≤ s) × (s < a + n) × Taken-at s
   unfolding refreshStamps
-  every-group a k h c =
-      enough (card .groups) first g a (a + k) (refreshStamps b (ofPart p (pastOf card es)))
-      (falling-where (refreshes b) (ofPart p (pastOf card es)) (traced card es end m n l e p ip .rising)) (omega arith) hg
+  every-group a k h f c =
+      enough (card .groups) first g a (a + k) (refreshStamps b own)
+      (falling-where (refreshes b) own (traced card es end m n l e p ip .rising)) (omega arith) hg
       (omega (
         arith,
-        refreshed card es end m n l e p ip b a k hb h,
-        le-div-iff-mul-le {x = card .groups + 17} {y = countedFrom (ofPart p (pastOf card es)) a k} positive .1 c,
+        refreshed card es end m n l e p ip b a k hb h f,
+        le-div-iff-mul-le {x = card .groups + 17} {y = countedFrom own a k} (positive a) .1 c,
       ))
 
   -- two takings with none between: as many counted cycles at most after the one, up to and with the other
-  pub in-a-row : (s t : ℕ) → Taken-at s → Taken-at t → s < t → ((u : ℕ) → Taken-at u → (u ≤ s) ⊎ (t ≤ u)) →
-      countedFrom (ofPart p (pastOf card es)) (suc s) (t - s) ≤ (card .groups + 17) * interval card
-  in-a-row s t hs ht lt next = ⊎-elim
+  pub in-a-row : (s t : ℕ) → Taken-at s → Taken-at t → s < t → ((u : ℕ) → Taken-at u → (u ≤ s) ⊎ (t ≤ u)) → Free own (suc s) (t - suc s) →
+      countedFrom own (suc s) (t - s) ≤ (card .groups + 17) * intervalBelow card (suc s) own
+  in-a-row s t hs ht lt next f = ⊎-elim
       (λ (q : (Between < Most) × (ltb Between Most ≡ true)).
       let z : t - s ≡ suc (t - suc s) = omega arith in
-      rw z (omega (arith, q .0, one-at-most (ofPart p (pastOf card es)) (suc s) (t - suc s))))
-      (λ (q : (Most ≤ Between) × (ltb Between Most ≡ false)). absurd (between (every-group (suc s) (t - suc s) (omega (arith, last)) (q .0))))
+      rw z (omega (arith, q .0, one-at-most own (suc s) (t - suc s))))
+      (λ (q : (Most ≤ Between) × (ltb Between Most ≡ false)). absurd (between (every-group (suc s) (t - suc s) (omega (arith, last)) f (q .0))))
       (lt-cases Between Most)
     where
       Between : ℕ
-      Between = countedFrom (ofPart p (pastOf card es)) (suc s) (t - suc s)
+      Between = countedFrom own (suc s) (t - suc s)
 
       Most : ℕ
-      Most = (card .groups + 17) * interval card
+      Most = (card .groups + 17) * intervalBelow card (suc s) own
 
       last : t < suc end
-      last = unfold refreshStamps in took-less (card .groups) first g (suc end) (refreshStamps b (ofPart p (pastOf card es)))
-          (less-where (refreshes b) (suc end) (ofPart p (pastOf card es)) (traced card es end m n l e p ip .ended)) t ht
+      last = unfold refreshStamps in took-less (card .groups) first g (suc end) (refreshStamps b own)
+          (less-where (refreshes b) (suc end) own (traced card es end m n l e p ip .ended)) t ht
 
       between : (u : ℕ) × (suc s ≤ u) × (u < suc s + (t - suc s)) × Taken-at u → ⊥
       between u = ⊎-elim
@@ -155,13 +162,13 @@ module _ (card : Card) (es : List Entry) (end m n : ℕ) (l : List ℤ) (e : jud
           clash′ x y = omega arith
 
   -- where every cycle counts: in every stretch of so many cycles, and so far apart at most
-  module _ (c : Counting (ofPart p (pastOf card es))) where
-    pub every-group-awake : (a : ℕ) → a + (card .groups + 17) * interval card ≤ end + 1 →
-        (s : ℕ) × (a ≤ s) × (s < a + (card .groups + 17) * interval card) × Taken-at s
-    every-group-awake a h = every-group a ((card .groups + 17) * interval card) h (rw (counted-all (ofPart p (pastOf card es)) c a _) (omega arith))
+  module _ (c : Counting own) where
+    pub every-group-awake : (a : ℕ) → a + (card .groups + 17) * intervalBelow card a own ≤ end + 1 → Free own a ((card .groups + 17) * intervalBelow card a own) →
+        (s : ℕ) × (a ≤ s) × (s < a + (card .groups + 17) * intervalBelow card a own) × Taken-at s
+    every-group-awake a h f = every-group a ((card .groups + 17) * intervalBelow card a own) h f (rw (counted-all own c a _) (omega arith))
 
-    pub in-a-row-awake : (s t : ℕ) → Taken-at s → Taken-at t → s < t → ((u : ℕ) → Taken-at u → (u ≤ s) ⊎ (t ≤ u)) →
-        t ≤ s + (card .groups + 17) * interval card
-    in-a-row-awake s t hs ht lt next =
-        let k : t - s ≤ (card .groups + 17) * interval card = rw (counted-all (ofPart p (pastOf card es)) c (suc s) (t - s)) at (in-a-row s t hs ht lt next) in
+    pub in-a-row-awake : (s t : ℕ) → Taken-at s → Taken-at t → s < t → ((u : ℕ) → Taken-at u → (u ≤ s) ⊎ (t ≤ u)) → Free own (suc s) (t - suc s) →
+        t ≤ s + (card .groups + 17) * intervalBelow card (suc s) own
+    in-a-row-awake s t hs ht lt next f =
+        let k : t - s ≤ (card .groups + 17) * intervalBelow card (suc s) own = rw (counted-all own c (suc s) (t - s)) at (in-a-row s t hs ht lt next f) in
         omega arith

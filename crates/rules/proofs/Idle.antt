@@ -9,7 +9,7 @@ use mathlib.Core.Option.{Option, none, some}
 use native.Mathlib.Nat.{add-zero, add-suc, min-eq-left, min-eq-right, le-of-lt}
 use native.Mathlib.Omega.{arith}
 use lib.Dec.{leb, ltb, eqb}
-use lib.IntN.{subℕ}
+use lib.IntN.{ℤ, subℕ}
 use borrow.Author.Tests.{le-leb, lt-leb, ne-eqb}
 use Rattle.rules.specs.Lists.{isOneOf}
 use Rattle.rules.specs.Folds.{orElse}
@@ -208,6 +208,21 @@ module _ (b : Beat) (positive : 0 < b .span) where
       reach : nextBy k (steady b) (beats b positive) (b .span) s o last last le (λ n h. (refl, refl)) ≡ next19 k b s o
       reach = unfold nextBy next19 beats in ap (λ (x : ℕ). beats b positive .reach x) ahead ∙ reach-is b positive s (k .credit + k .limit - o)
 
+-- ---- by two schedules that agree after number n
+module _ (d d′ : Schedule) (n : ℕ) (same : (m : ℕ) → n < m → d .due m ≡ d′ .due m) where
+  pub same-idle : (k : ℕ) (z : ℤ) (j : ℕ) → idle k d z n j ≡ idle k d′ z n j
+  unfolding idle
+  same-idle k z zero = refl
+  same-idle k z (suc j) = rw (same-idle k z j) (unfold cycle in rw (same (n + suc j) (omega arith)))
+
+  pub same-first : (k : Terms) (last last′ : ℕ) → ((m : ℕ) → n < m → (d .since last m ≡ d′ .since last′ m) × (d .span m ≡ d′ .span m)) →
+      (z : ℤ) (t j : ℕ) → firstIdle k d z last n t j ≡ firstIdle k d′ z last′ n t j
+  unfolding firstIdle
+  same-first k last last′ gap z t zero = refl
+  same-first k last last′ gap z t (suc j) =
+      let g = gap (n + suc j) (omega arith) in
+      rw (same-first k last last′ gap z t j, same-idle (k .credit) z (suc j)) (unfold failing in rw (g .0, g .1))
+
 -- ---- a counted refresh at number c changes nothing before c
 pub owed-ahead : (k : ℕ) (d : Schedule) (c : ℕ) (cs : List ℕ) (n : ℕ) → n ≤ c → owed k d (c ∷ cs) n ≡ owed k d cs n
 unfolding owed isOneOf
@@ -222,6 +237,21 @@ pub not-yet : (c : ℕ) (cs : List ℕ) → Less c cs → isOneOf cs c ≡ false
 unfolding Less isOneOf
 not-yet c [] l = refl
 not-yet c (x ∷ xs) l = rw (ne-eqb x c (omega (arith, l .0)), not-yet c xs (l .1))
+
+-- the last counted refresh is not after the number asked for
+pub last-by : (cs : List ℕ) (t : ℕ) → lastCounted cs t ≤ t
+unfolding lastCounted
+last-by [] t = omega arith
+last-by (c ∷ cs) t = ⊎-elim
+    (λ (p : (c ≤ t) × (leb c t ≡ true)). rw (p .1) (p .0))
+    (λ (p : (t < c) × (leb c t ≡ false)). rw (p .1) (last-by cs t))
+    (le-cases c t)
+
+-- nor does a due after number n change anything up to it
+pub same-ledger : (k : ℕ) (d d′ : Schedule) (cs : List ℕ) (n : ℕ) → ((m : ℕ) → m < n → d .due m ≡ d′ .due m) → ledgerBefore k d cs n ≡ ledgerBefore k d′ cs n
+unfolding ledgerBefore
+same-ledger k d d′ cs zero same = refl
+same-ledger k d d′ cs (suc n) same = rw (same-ledger k d d′ cs n (λ m l. same m (omega arith))) (unfold cycle in rw (same n (omega arith)))
 
 -- ---- a list of counted refreshes, none of which comes after number s
 not-one : (s t : ℕ) (cs : List ℕ) → Less (suc s) cs → s < t → isOneOf cs t ≡ false
@@ -253,7 +283,7 @@ ledger-idle k d s cs l (suc j) = rw add-suc (step ∙ ap (cycle k d false (suc (
 
 -- a book whose clock runs on from cycle t, with no counted refresh after it
 module _ (k : Terms) (b : Book) (t : ℕ) (l : Less (suc (b .clock t)) (b .refreshes)) (runs : (j : ℕ) → b .clock (t + j) ≡ b .clock t + j) where
-  ledger-later : (j : ℕ) → ledgerOn (k .credit) b (t + j) ≡ idle (k .credit) (b .schedule) (ledgerOn (k .credit) b t) (b .clock t) j
+  pub ledger-later : (j : ℕ) → ledgerOn (k .credit) b (t + j) ≡ idle (k .credit) (b .schedule) (ledgerOn (k .credit) b t) (b .clock t) j
   unfolding ledgerOn
   ledger-later j = rw (runs j) (ledger-idle (k .credit) (b .schedule) (b .clock t) (b .refreshes) l j)
 

@@ -16,15 +16,16 @@ use Rattle.rules.specs.Registers.{mr2Good}
 use Rattle.rules.specs.Ranges.{cardGood}
 use Rattle.rules.specs.Whose.{isOf, parts}
 use Rattle.rules.specs.Folds.{firstOf}
-use Rattle.rules.specs.Levels.{stopped}
+use Rattle.rules.specs.Levels.{levelAfter, stopped}
 use Rattle.rules.specs.Account.{lpddr3, Beat, steady, takeOne, idle, firstIdle, failing}
-use Rattle.rules.specs.Clock.{beatOf}
 use Rattle.rules.specs.Entries.{Entry, whoseOf}
 use Rattle.rules.specs.Checks.{checks, valueGood}
 use Rattle.rules.specs.Delays.{means}
 use Rattle.rules.specs.Lent.{
   Ledger,
   numberOf,
+  Pace,
+  beatOf,
   History,
   Share,
   Lent,
@@ -48,6 +49,7 @@ use Rattle.rules.specs.Lent.{
   countedTo,
   ledgerTo,
   refreshedAt,
+  sensedAt,
   atLevel,
   entered,
   ledgerWith,
@@ -181,10 +183,20 @@ biased-refreshed false g b = b
 since-to : (b : Beat) (g : Ledger) (t : ℕ) → g .at ≤ t → g .since ≤ numberOf g → ledgerTo b g t .since ≤ numberOf (ledgerTo b g t)
 since-to b g t h s = rw (number-to b g t h) (unfold ledgerTo in omega arith)
 
-since-refreshed : (counted : Bool) (g : Ledger) → g .since ≤ numberOf g → sinceGood (refreshedAt counted g) ≡ true
-unfolding sinceGood refreshedAt numberOf
-since-refreshed true g h = le-leb (g .at - g .skipped) (g .at - g .skipped) (omega arith)
-since-refreshed false g h = le-leb _ _ h
+since-refreshed : (counted : Bool) (g : Ledger) → g .since ≤ numberOf g → refreshedAt counted g .since ≤ numberOf (refreshedAt counted g)
+unfolding refreshedAt numberOf
+since-refreshed true g h = omega arith
+since-refreshed false g h = h
+
+since-sensed : (sensed : Bool) (g : Ledger) → g .since ≤ numberOf g → sensedAt sensed g .since ≤ numberOf (sensedAt sensed g)
+unfolding sensedAt numberOf
+since-sensed true g h = omega arith
+since-sensed false g h = h
+
+owing-sensed : (sensed : Bool) (g : Ledger) → sensedAt sensed g .owing ≡ g .owing
+unfolding sensedAt
+owing-sensed true g = refl
+owing-sensed false g = refl
 
 -- where it stands nothing is added
 owing-here : (b : Beat) (g : Ledger) → ledgerTo b g (g .at) .owing ≡ g .owing
@@ -195,22 +207,26 @@ owing-here b g = go (stopped (g .level))
     go true = unfold idle in refl
     go false = let z : g .at - g .at ≡ 0 = omega arith in rw z (unfold idle in refl)
 
-module _ (card : Card) (g : Ledger) where
+module _ (card : Card) (p : Pace) (g : Ledger) where
+  abbrev b : Beat
+  b = beatOf card p
+
   -- taken through an entry's cycle
-  pub entered-good : (x : Effect) (t : ℕ) → ledgerGood card g ≡ true → g .at ≤ t → failingOf (beatOf card) (entered x (beatOf card) g t) ≡ none →
-      ledgerGood card (entered x (beatOf card) g t) ≡ true
+  pub entered-good : (x : Effect) (t : ℕ) → ledgerGood card g ≡ true → g .at ≤ t → failingOf (beatOf card p) (entered x (beatOf card p) g t) ≡ none →
+      ledgerGood card (entered x (beatOf card p) g t) ≡ true
   unfolding entered failingOf atLevel
   entered-good x t good h n =
       let s = sound-ledger card g good in
-      let to = ledgerTo (beatOf card) g t in
+      let to = ledgerTo b g t in
+      let back = refreshedAt (x .counted) to in
       let since : g .since ≤ numberOf g = unfold sinceGood in leb-true (g .since) (numberOf g) (s .since) in
-      ledger-good-if card (atLevel (x .level) (refreshedAt (x .counted) to)) (record {
+      ledger-good-if card (atLevel (levelAfter (x .move) (g .level)) (sensedAt (x .sensed) back)) (record {
         card = s .card;
-        owing = within _ _ _ _ _ (biased-refreshed (x .counted) to (biased-to (beatOf card) g t (biased (g .owing) (s .owing)))) n;
-        since = unfold sinceGood numberOf in since-refreshed (x .counted) to (since-to (beatOf card) g t h since);
+        owing = within _ _ _ _ _ (rw (owing-sensed (x .sensed) back) (biased-refreshed (x .counted) to (biased-to b g t (biased (g .owing) (s .owing))))) n;
+        since = unfold sinceGood numberOf in le-leb _ _ (since-sensed (x .sensed) back (since-refreshed (x .counted) to (since-to b g t h since)));
       })
 
-  pub enter-good : (x : Effect) (t : ℕ) → enterRefusal x card g t ≡ none → ledgerGood card (entered x (beatOf card) g t) ≡ true
+  pub enter-good : (x : Effect) (t : ℕ) → enterRefusal x card p g t ≡ none → ledgerGood card (entered x (beatOf card p) g t) ≡ true
   unfolding enterRefusal firstOf
   enter-good x t n =
       let (good, n₁) = orElse-none _ _ n in
@@ -220,13 +236,10 @@ module _ (card : Card) (g : Ledger) where
       entered-good x t (unless-none _ 13 good) (leb-true (g .at) t (unless-none _ 5 from)) (named-none 11 _ here)
 
   -- of the cycles that a ledger is moved on over, the last does not take it out of its range
-  owing-there : (c : ℕ) → SoundLedger card g → g .at < c → failingTo (beatOf card) g (suc c) ≡ none → owingGood (movedOn card g c .owing) ≡ true
+  owing-there : (c : ℕ) → SoundLedger card g → g .at < c → failingTo b g (suc c) ≡ none → owingGood (movedOn card p g c .owing) ≡ true
   unfolding failingTo movedOn ledgerTo countedTo
   owing-there c s h = go (stopped (g .level))
     where
-      b : Beat
-      b = beatOf card
-
       j : suc c - suc (g .at) ≡ suc (c - suc (g .at))
       j = omega arith
 
@@ -243,7 +256,7 @@ module _ (card : Card) (g : Ledger) where
           unfold firstIdle in orElse-none _ _ (rw j at n) .1 in
           rw k (within b _ _ _ _ (_, ap (λ (z : ℤ). idle (lpddr3 .credit) (steady b) z (numberOf g) (suc (c - suc (g .at)))) e ∙ idle-biased (steady b) (lpddr3 .credit) o (numberOf g) (suc (c - suc (g .at)))) m)
 
-  pub moved-good : (c : ℕ) → moveRefusal card g c ≡ none → ledgerGood card (movedOn card g c) ≡ true
+  pub moved-good : (c : ℕ) → moveRefusal card p g c ≡ none → ledgerGood card (movedOn card p g c) ≡ true
   unfolding moveRefusal firstOf
   moved-good c n =
       let (first, n₁) = orElse-none _ _ n in
@@ -251,16 +264,16 @@ module _ (card : Card) (g : Ledger) where
       let (below, n₃) = orElse-none _ _ n₂ in
       go (unless-none _ 13 first) (leb-true (g .at) c (unless-none _ 5 from)) (named-none 11 _ below)
     where
-      go : ledgerGood card g ≡ true → g .at ≤ c → failingTo (beatOf card) g (suc c) ≡ none → ledgerGood card (movedOn card g c) ≡ true
-      go good h f = ledger-good-if card (movedOn card g c) (record {
+      go : ledgerGood card g ≡ true → g .at ≤ c → failingTo b g (suc c) ≡ none → ledgerGood card (movedOn card p g c) ≡ true
+      go good h f = ledger-good-if card (movedOn card p g c) (record {
         card = s .card;
         owing = ⊎-elim
             (λ (p : (g .at < c) × (ltb (g .at) c ≡ true)). owing-there c s (p .0) f)
             (λ (p : (c ≤ g .at) × (ltb (g .at) c ≡ false)).
             let e : c ≡ g .at = omega (arith, p .0) in
-            rw e (unfold movedOn in rw (owing-here (beatOf card) g) (s .owing)))
+            rw e (unfold movedOn in rw (owing-here b g) (s .owing)))
             (lt-cases (g .at) c);
-        since = unfold sinceGood movedOn in le-leb _ _ (since-to (beatOf card) g c h (unfold sinceGood in leb-true _ _ (s .since)));
+        since = unfold sinceGood movedOn in le-leb _ _ (since-to b g c h (unfold sinceGood in leb-true _ _ (s .since)));
       })
         where
           s : SoundLedger card g
@@ -278,7 +291,7 @@ pub record StepPassed (l : Lent) (e : Entry) : Type 0 where
   pub above : aboveLast (l .last) (e .stamp) ≡ true
   pub from : (p : ℕ) → IsPart (l .card) p → l .share p .ledger .at ≤ e .stamp
   pub value : valueGood (l .card) (commandIn l e) ≡ true
-  pub paid : (p : ℕ) → IsPart (l .card) p → failingOf (beatOf (l .card)) (ledgerWith l e p) ≡ none
+  pub paid : (p : ℕ) → IsPart (l .card) p → failingOf (beatOf (l .card) (l .pace)) (ledgerWith l e p) ≡ none
 
 module _ (l : Lent) (e : Entry) (n : stepRefusal l e ≡ none) where
   pub step-passed : StepPassed l e
@@ -293,15 +306,16 @@ module _ (l : Lent) (e : Entry) (n : stepRefusal l e ≡ none) where
       let (state, n₇) = orElse-none _ _ n₆ in
       let (permitted, n₈) = orElse-none _ _ n₇ in
       let (value, n₉) = orElse-none _ _ n₈ in
-      let (delays, n₁₀) = orElse-none _ _ n₉ in
-      let (at, n₁₁) = orElse-none _ _ n₁₀ in
+      let (code, n₁₀) = orElse-none _ _ n₉ in
+      let (delays, n₁₁) = orElse-none _ _ n₁₀ in
+      let (at, n₁₂) = orElse-none _ _ n₁₁ in
       let (above, from) = both-true _ _ (unless-none _ 5 rises) in
       record {
         good = unless-none _ 13 good;
         above = above;
         from = λ p i. leb-true (l .share p .ledger .at) (e .stamp) (all-each (λ p. leb (l .share p .ledger .at) (e .stamp)) (parts (l .card)) from p i);
         value = recorded-good (l .card) (readIn l e) (unless-none _ 9 value);
-        paid = every-at (λ o. o ≡ none) (λ p. failingOf (beatOf (l .card)) (ledgerWith l e p)) (parts (l .card)) (none-each _ (named-none 11 _ at));
+        paid = every-at (λ o. o ≡ none) (λ p. failingOf (beatOf (l .card) (l .pace)) (ledgerWith l e p)) (parts (l .card)) (none-each _ (named-none 11 _ at));
       }
 
   -- stamps that are not above the last are not above what comes after it
@@ -347,18 +361,20 @@ module _ (l : Lent) (e : Entry) (n : stepRefusal l e ≡ none) where
     pub ledger-kept : ledgerGood (l .card) (ledgerWith l e p) ≡ true
     unfolding ledgerWith
     ledger-kept =
-        entered-good (l .card) (l .share p .ledger) (effectOn l e p) (e .stamp) (ledger-good l (step-passed .good) p i) (step-passed .from p i) (step-passed .paid p i)
+        entered-good (l .card) (l .pace) (l .share p .ledger) (effectOn l e p) (e .stamp) (ledger-good l (step-passed .good) p i) (step-passed .from p i) (step-passed .paid p i)
 
     sound-kept : SoundLedger (l .card) (ledgerWith l e p)
     sound-kept = sound-ledger (l .card) (ledgerWith l e p) ledger-kept
 
     ledger-there : lastBy (some (e .stamp)) (ledgerWith l e p .at) ≡ true
     unfolding lastBy ledgerWith entered atLevel
-    ledger-there = at-it (effectOn l e p .counted)
+    ledger-there = at-it (effectOn l e p .sensed) (effectOn l e p .counted)
       where
-        at-it : (x : Bool) → leb (e .stamp) (refreshedAt x (ledgerTo (beatOf (l .card)) (l .share p .ledger) (e .stamp)) .at) ≡ true
-        at-it true = unfold refreshedAt ledgerTo in le-leb (e .stamp) (e .stamp) (omega arith)
-        at-it false = unfold refreshedAt ledgerTo in le-leb (e .stamp) (e .stamp) (omega arith)
+        at-it : (y x : Bool) → leb (e .stamp) (sensedAt y (refreshedAt x (ledgerTo (beatOf (l .card) (l .pace)) (l .share p .ledger) (e .stamp))) .at) ≡ true
+        at-it true true = unfold sensedAt refreshedAt ledgerTo in le-leb (e .stamp) (e .stamp) (omega arith)
+        at-it true false = unfold sensedAt refreshedAt ledgerTo in le-leb (e .stamp) (e .stamp) (omega arith)
+        at-it false true = unfold sensedAt refreshedAt ledgerTo in le-leb (e .stamp) (e .stamp) (omega arith)
+        at-it false false = unfold sensedAt refreshedAt ledgerTo in le-leb (e .stamp) (e .stamp) (omega arith)
 
     own-kept : SoundShare (l .card) (some (e .stamp)) (shareAfter (commandIn l e) (moveIn l e) (e .stamp) (ledgerWith l e p) (l .share p))
     unfolding shareAfter

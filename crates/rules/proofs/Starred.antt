@@ -1,10 +1,11 @@
--- The starred cases and the further ones, those of low clock-enable and those of two parts, each as a file, by computation.
+-- The starred cases and the further ones, those of low clock-enable, of two parts and of temperature, each as a file, by computation.
 use mathlib.Core.Path.{_≡_, refl, ap, sym, _∙_}
 use mathlib.Core.List.{List, [], _∷_, _++_}
 use lib.ListN.{length}
 use Rattle.rules.specs.Lists.{Every, all, isOneOf, when}
 use Rattle.rules.specs.Bits.{bits, on, bit}
-use Rattle.rules.specs.Units.{roundedUp, n, interval, rowCycle, delaysOf}
+use Rattle.rules.specs.Units.{roundedUp, n, rowCycle, delaysOf}
+use Rattle.rules.specs.Heat.{heat, mr4Good, startMR4, quarters, intervalAt, isHot, longer, hotCard, delaysAt}
 use Rattle.rules.specs.Commands.{code, bare, carries, kindOf, bankOf, apOf, is, banks}
 use Rattle.rules.specs.Pins.{
   CAr,
@@ -48,16 +49,21 @@ use Rattle.rules.specs.Levels.{
   selected,
   readPair,
   readAs,
+  senseAt,
+  readMR4,
 }
 use Rattle.rules.specs.Entries.{
   viewOf,
+  readBody,
   read,
   readAfter,
+  whoseBody,
   whoseOf,
   partIn,
   commandOf,
   recordedAs,
   moveOf,
+  mr4Of,
   fallsAs,
   movesAs,
   judgedAs,
@@ -74,6 +80,8 @@ use Rattle.rules.specs.Past.{
   registerAfter,
   register,
   mr2At,
+  mr4After,
+  mr4At,
   levelAt,
   counterAfter,
   counterAt,
@@ -111,10 +119,10 @@ use Rattle.rules.specs.Delays.{
   rule,
   delayRules,
 }
-use Rattle.rules.specs.Account.{lpddr3, every, fallen, nextAfter, takeOne, failing, earlier, earliest}
-use Rattle.rules.specs.Clock.{beatOf}
-use Rattle.rules.specs.Checks.{refusal, unless, named, isWrong, isReserved, isBarred, isClash, valueGood, checks, above, notBelow}
-use Rattle.rules.specs.Ranges.{within, periodGood, groupsGood, trefiGood, timingGood, timings, sleepTimings}
+use Rattle.rules.specs.Account.{lpddr3, every, fallen, nextAfter, respaced, takeOne, failing, earlier, earliest}
+use Rattle.rules.specs.Clock.{beatBy}
+use Rattle.rules.specs.Checks.{refusal, unless, named, isWrong, isReserved, isBarred, isClash, codeGood, valueGood, checks, above, notBelow}
+use Rattle.rules.specs.Ranges.{within, periodGood, groupsGood, trefiGood, timingGood, raiseGood, timings, sleepTimings}
 use Rattle.rules.specs.Form.{
   bytesOf,
   sizeOf,
@@ -126,6 +134,7 @@ use Rattle.rules.specs.Form.{
   endsGroup,
   beginsGroup,
   cardWhole,
+  ofEntry,
   ofTrace,
   mayFollow,
   mayCome,
@@ -144,14 +153,15 @@ use Rattle.rules.specs.Form.{
   cardOf,
   gapGood,
   fieldGood,
+  bodyOf,
   entryOf,
   endOf,
 }
 use Rattle.rules.specs.Verdict.{sum, refreshCount}
 use Rattle.rules.specs.File.{Judged, begun, orRefused, cardStep, closing, judgeFile}
 use Rattle.rules.specs.Writer.{bigEndian, fieldBytes, entryBytes}
-use Rattle.rules.specs.Lines.{digits, decimal, signed, nameOf, showsBank, shownPart, entryLine, entryLines, ledgerParts, verdictLine, linesOf}
-use Rattle.rules.specs.Lent.{numberOf, noEffect, countedTo, refreshedAt, atLevel, failingOf, freshShare}
+use Rattle.rules.specs.Lines.{digits, decimal, signed, nameOf, showsBank, shownPart, entryLine, unlessSensed, entryLines, ledgerParts, verdictLine, linesOf}
+use Rattle.rules.specs.Lent.{numberOf, isThere, noEffect, countedTo, refreshedAt, sensedAt, atLevel, failingOf, freshShare}
 use Rattle.rules.specs.Bench.{
   timing,
   onlyIf,
@@ -160,8 +170,12 @@ use Rattle.rules.specs.Bench.{
   bench,
   sleeper,
   pair,
+  heater,
+  hotPair,
+  tight,
   timingFields,
   cardFile,
+  bodyBytes,
   entriesFile,
   endFile,
   file,
@@ -185,17 +199,19 @@ use Rattle.rules.specs.Bench.{
   _at₁_,
   bothOpen,
   paired,
+  _sets_,
+  warming,
 }
 use Rattle.rules.proofs.Tests.{_&_}
 use Rattle.rules.proofs.Idle.{owedAt, next19, next20, after20, firstNext}
 use Rattle.rules.proofs.Clocked.{relabel}
 use Rattle.rules.proofs.Closed.{biased, ledgerClosed, failingClosed}
 use Rattle.rules.proofs.Walks.{headBy, entryBy, endBy, byHeadBy, stepBy, fileBy, judgedBy}
-use Rattle.rules.proofs.Computed.{effectFor, ledgerThen, ledgerOver, failingsFrom, failingsAt, entryFrom, endFrom, owingsFrom, computing, computed, computed-judged}
+use Rattle.rules.proofs.Computed.{effectFor, ledgerThen, keptThen, keptOver, failingsFrom, failingsAt, entryFrom, endFrom, owingsFrom, computing, computed, computed-judged}
 
 -- names every definition that a case computes with
 unfoldable pub opened : Unit {0}
-unfolding Every all isOneOf when bits on bit roundedUp n interval rowCycle delaysOf code bare carries kindOf bankOf apOf is banks CAr CAf byLevels kindAt run maRuns opRuns bankRuns rowRuns columnRuns gathered scattered listedMA ofKind decode levels enabled encode encodePair row latencies atCode mr2Good rlOf wlOf mr1Good mayWrite depth sameLevel stopped isFall isRise risesFrom levelAfter fallBy fall rise readAt readPins seen selected readPair readAs isOf partOf other bySelects whose parts ofPart read readAfter whoseOf partIn ownFor othersFor viewFor readFor commandOf recordedAs moveOf fallsAs movesAs judgedAs taken takenFor pastWith levelAt registerAfter register mr2At counterAfter counterAt bankAt opens precharges closes openAfter isOpen isCounted stampsWhere countedStamps commandCount allClosed goes stateGood orElse firstOf latest back permitted permittedBy bound firstBroken latestOf laggingOf fourthOf latestIf latestMove to means found find lookBoth turned idleUse precharged without from lagging across rule delayRules lpddr3 every fallen nextAfter takeOne failing earlier earliest beatOf refusal unless named isWrong isReserved isBarred isClash valueGood viewOf checks above notBelow within periodGood groupsGood trefiGood timingGood timings sleepTimings bytesOf sizeOf numberFrom number _upTo_ groups lastTag endsGroup beginsGroup cardWhole ofTrace mayFollow mayCome _of_ lengths isListed lengthGood valued sized headOf timingOf valueOf has numberAt timingAt cardOf gapGood fieldGood entryOf endOf sum refreshCount begun orRefused cardStep closing bigEndian fieldBytes entryBytes digits decimal signed nameOf showsBank shownPart entryLine entryLines ledgerParts verdictLine numberOf noEffect countedTo refreshedAt atLevel failingOf freshShare accepts timing onlyIf benchWith benchAt bench sleeper pair timingFields cardFile entriesFile endFile file _at_ eightRefreshes fourActs starred further _low_ sevenRefreshes sleeping _at₀_ _at₁_ bothOpen paired owedAt next19 next20 after20 firstNext relabel biased ledgerClosed failingClosed headBy entryBy endBy byHeadBy stepBy fileBy judgedBy effectFor ledgerThen ledgerOver failingsFrom failingsAt entryFrom endFrom owingsFrom computing computed
+unfolding Every all isOneOf when bits on bit roundedUp n rowCycle delaysOf heat mr4Good startMR4 quarters intervalAt isHot longer hotCard delaysAt code bare carries kindOf bankOf apOf is banks CAr CAf byLevels kindAt run maRuns opRuns bankRuns rowRuns columnRuns gathered scattered listedMA ofKind decode levels enabled encode encodePair row latencies atCode mr2Good rlOf wlOf mr1Good mayWrite depth sameLevel stopped isFall isRise risesFrom levelAfter fallBy fall rise readAt readPins seen selected readPair readAs senseAt readMR4 isOf partOf other bySelects whose parts ofPart readBody read readAfter whoseBody whoseOf partIn ownFor othersFor viewFor readFor commandOf recordedAs moveOf mr4Of fallsAs movesAs judgedAs taken takenFor pastWith levelAt registerAfter register mr2At mr4After mr4At counterAfter counterAt bankAt opens precharges closes openAfter isOpen isCounted stampsWhere countedStamps commandCount allClosed goes stateGood orElse firstOf latest back permitted permittedBy bound firstBroken latestOf laggingOf fourthOf latestIf latestMove to means found find lookBoth turned idleUse precharged without from lagging across rule delayRules lpddr3 every fallen nextAfter respaced takeOne failing earlier earliest beatBy refusal unless named isWrong isReserved isBarred isClash codeGood valueGood viewOf checks above notBelow within periodGood groupsGood trefiGood timingGood raiseGood timings sleepTimings bytesOf sizeOf numberFrom number _upTo_ groups lastTag endsGroup beginsGroup cardWhole ofEntry ofTrace mayFollow mayCome _of_ lengths isListed lengthGood valued sized headOf timingOf valueOf has numberAt timingAt cardOf gapGood fieldGood bodyOf entryOf endOf sum refreshCount begun orRefused cardStep closing bigEndian fieldBytes entryBytes digits decimal signed nameOf showsBank shownPart entryLine unlessSensed entryLines ledgerParts verdictLine numberOf isThere noEffect countedTo refreshedAt sensedAt atLevel failingOf freshShare accepts timing onlyIf benchWith benchAt bench sleeper pair heater hotPair tight timingFields cardFile bodyBytes entriesFile endFile file _at_ eightRefreshes fourActs starred further _low_ sevenRefreshes sleeping _at₀_ _at₁_ bothOpen paired _sets_ warming owedAt next19 next20 after20 firstNext relabel biased ledgerClosed failingClosed headBy entryBy endBy byHeadBy stepBy fileBy judgedBy effectFor ledgerThen keptThen keptOver failingsFrom failingsAt entryFrom endFrom owingsFrom computing computed
 opened = tt
 
 -- a case whose verdict is computed with the account in closed form
@@ -244,6 +260,15 @@ paired-computes =
     refl & refl & refl & refl & refl & refl &
     (refl, refl) & (refl, refl) & (refl, refl) & (refl, refl) & refl & tt
 
+warming-computes : Every Computes warming
+unfolding opened Computes
+warming-computes =
+    refl & refl & refl & refl & refl & refl & refl & refl & refl & refl & refl & refl & refl & refl & refl & refl & refl & refl & refl & refl &
+    refl & refl & refl & refl & refl & refl & refl & refl & refl & refl & refl & refl & refl & refl & refl & refl & refl & refl & refl & refl &
+    refl & refl & refl & refl & refl & refl & refl & refl & refl & refl & refl & refl & refl & refl & refl & refl & refl & refl & refl & refl &
+    refl & refl & refl & refl & refl & refl & refl & refl & refl & refl & refl & refl & refl & refl & refl & refl & refl & refl & refl & refl &
+    refl & refl & refl & refl & tt
+
 pub starred-hold : Every Shown starred
 starred-hold = all-shown starred starred-computes
 
@@ -255,3 +280,6 @@ sleeping-hold = all-shown sleeping sleeping-computes
 
 pub paired-hold : Every Shown paired
 paired-hold = all-shown paired paired-computes
+
+pub warming-hold : Every Shown warming
+warming-hold = all-shown warming warming-computes

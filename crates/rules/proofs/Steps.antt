@@ -14,13 +14,13 @@ use Rattle.rules.specs.Past.{Past, ofPart, lastCycle}
 use Rattle.rules.specs.Entries.{Entry, pastWith, pastOver, pastOf}
 use Rattle.rules.specs.Checks.{Refusal, entryRefusal}
 use Rattle.rules.specs.Reading.{AllPass, readsAt}
-use Rattle.rules.specs.Lent.{Lent, stepRefusal, withLedger, lentAfter, movedOn, shareOf, standsAt, standing, fresh, AllTaken, PaidTo}
+use Rattle.rules.specs.Lent.{Lent, stepRefusal, withLedger, lentAfter, movedOn, paceOf, shareOf, standsAt, standing, fresh, AllTaken, PaidTo}
 use Rattle.rules.proofs.Tests.{some-none}
 use Rattle.rules.proofs.Filtered.{IsPart}
 use Rattle.rules.proofs.Exactly.{entry-decides}
-use Rattle.rules.proofs.Apart.{entriesOf, independent}
+use Rattle.rules.proofs.Apart.{entriesOf, own-only, independent}
 use Rattle.rules.proofs.Taken.{unmoved, paid-to-last}
-use Rattle.rules.proofs.StepByList.{fresh-stands, ledger-is, share-at, step-accepts, step-after, step-keeps, step-unmoved}
+use Rattle.rules.proofs.StepByList.{fresh-stands, pace-is, ledger-is, share-at, step-accepts, step-after, step-keeps, step-unmoved}
 
 -- each entry in turn; none at the first refusal
 unfoldable pub runSteps : Lent → List Entry → Option Lent
@@ -100,7 +100,7 @@ module _ (card : Card) where
 
     -- ---- after a run a part's share, its ledger moved on to cycle d, is by its own entries and d alone
     own-share : (es : List Entry) (l : Lent) → runSteps (fresh card) es ≡ some l → (p : ℕ) → IsPart card p → (d : ℕ) → lastCycle (pastOf card es) ≤ d →
-        withLedger (movedOn card (l .share p .ledger) d) (l .share p) ≡ shareOf card (ofPart p (pastOf card es)) d
+        withLedger (movedOn card (l .pace) (l .share p .ledger) d) (l .share p) ≡ shareOf card (ofPart p (pastOf card es)) d
     own-share es l r p i d h =
         let q = runs-iff es l .0 r in
         let all : AllTaken card (pastOf card es) = unfold pastOf in entries-taken [] (unfold AllTaken in tt) es (q .0) in
@@ -108,7 +108,18 @@ module _ (card : Card) where
         let there : standsAt (pastOf card es) unmoved p ≤ d = unfold standsAt in omega arith in
         rw (q .1, ledger-is card (pastOf card es) unmoved good all paid p i) (share-at card (pastOf card es) unmoved good all paid p i d there)
 
+    -- and so is the pace, by any part's own entries
+    own-pace : (es : List Entry) (l : Lent) → runSteps (fresh card) es ≡ some l → (p : ℕ) → IsPart card p → l .pace ≡ paceOf card (ofPart p (pastOf card es))
+    own-pace es l r p i =
+        let q = runs-iff es l .0 r in
+        let all : AllTaken card (pastOf card es) = unfold pastOf in entries-taken [] (unfold AllTaken in tt) es (q .0) in
+        rw (q .1) (pace-is card (pastOf card es) unmoved good all (paid-to-last card (pastOf card es) all) p i)
+
+    pub independent-pace : (p : ℕ) → IsPart card p → (es es′ : List Entry) (l l′ : Lent) → runSteps (fresh card) es ≡ some l → runSteps (fresh card) es′ ≡ some l′ →
+        entriesOf card p es ≡ entriesOf card p es′ → l .pace ≡ l′ .pace
+    independent-pace p i es es′ l l′ r r′ same = own-pace es l r p i ∙ ap (paceOf card) (own-only card p es es′ same) ∙ sym (own-pace es′ l′ r′ p i)
+
     pub independent-steps : (p : ℕ) → IsPart card p → (es es′ : List Entry) (l l′ : Lent) → runSteps (fresh card) es ≡ some l → runSteps (fresh card) es′ ≡ some l′ →
         entriesOf card p es ≡ entriesOf card p es′ → (d : ℕ) → lastCycle (pastOf card es) ≤ d → lastCycle (pastOf card es′) ≤ d →
-        withLedger (movedOn card (l .share p .ledger) d) (l .share p) ≡ withLedger (movedOn card (l′ .share p .ledger) d) (l′ .share p)
+        withLedger (movedOn card (l .pace) (l .share p .ledger) d) (l .share p) ≡ withLedger (movedOn card (l′ .pace) (l′ .share p .ledger) d) (l′ .share p)
     independent-steps p i es es′ l l′ r r′ same d h h′ = own-share es l r p i d h ∙ independent card p es es′ same d ∙ sym (own-share es′ l′ r′ p i d h′)

@@ -12,8 +12,9 @@ use Rattle.rules.specs.Pins.{wrongBits}
 use Rattle.rules.specs.Whose.{Whose, isOf, bySelects, whose, parts}
 use Rattle.rules.specs.Levels.{Level, plain, selected, readPair, readAs}
 use Rattle.rules.specs.Past.{Taken, Past, ofPart, levelAt, commandCount}
-use Rattle.rules.specs.Entries.{Entry, read, readAfter, whoseOf, commandOf, recordedAs, taken, ownFor, takenFor, pastWith, pastOver, pastOf}
+use Rattle.rules.specs.Entries.{Body, pins, mr4, Entry, readBody, read, readAfter, whoseBody, whoseOf, commandOf, recordedAs, taken, ownFor, takenFor, pastWith, pastOver, pastOf}
 use Rattle.rules.specs.Verdict.{sum}
+use Rattle.rules.proofs.Filtered.{mr4-nop}
 
 -- 1 unless it is a NOP; and the same if it is part p's, else 0
 abbrev one : Command → ℕ
@@ -56,6 +57,12 @@ pair-one s d p l hs hd = rw (hs, hd) (go (on p 21 && eqb (p / 2 ^ 23) 0) (on p 2
     go true false false = unfold bySelects isOf selected recordedAs commandOf is code kindOf carries bare in refl
 
 module _ (card : Card) (apart : card .paired ≡ true → card .sleeps ≡ false) where
+  body-one : (b : Body) (l : Level) → card .paired ≡ true →
+      among 0 (whoseBody (card .paired) b) (recordedAs (readBody card l b)) + among 1 (whoseBody (card .paired) b) (recordedAs (readBody card l b)) ≡ one (recordedAs (readBody card l b))
+  unfolding whoseBody readBody
+  body-one (pins p) l u = pair-one (card .sleeps) (card .paired) p l (apart u) u
+  body-one (mr4 v) l u = rw (mr4-nop (card .sleeps) (card .paired) l v, u) (unfold isOf is code kindOf carries bare in refl)
+
   abbrev Sum : Past → ℕ
   Sum t = sum (map (λ p. commandCount (ofPart p t)) (parts card))
 
@@ -67,12 +74,16 @@ module _ (card : Card) (apart : card .paired ≡ true → card .sleeps ≡ false
       x = takenFor card past e
 
       pair : card .paired ≡ true → among 0 (x .whose) (x .cmd) + among 1 (x .whose) (x .cmd) ≡ one (x .cmd)
-      pair u = unfold takenFor taken whoseOf readAfter read in pair-one (card .sleeps) (card .paired) (e .pins) (levelAt (ownFor card past e)) (apart u) u
+      pair u = unfold takenFor taken whoseOf readAfter read in body-one (e .body) (levelAt (ownFor card past e)) u
 
       go : (y : Bool) → card .paired ≡ y →
           sum (map (λ p. commandCount (ofPart p past)) (cond y (0 ∷ 1 ∷ []) (0 ∷ []))) ≡ commandCount past →
           sum (map (λ p. commandCount (ofPart p (x ∷ past))) (cond y (0 ∷ 1 ∷ []) (0 ∷ []))) ≡ one (x .cmd) + commandCount past
-      go false u k = rw (count-part 0 x past) (unfold takenFor taken whoseOf in rw u (unfold whose isOf in omega arith))
+      go false u k = rw (count-part 0 x past) (unfold takenFor taken whoseOf in rw (sole-first (e .body) u) (omega arith))
+        where
+          sole-first : (b : Body) → card .paired ≡ false → isOf 0 (whoseBody (card .paired) b) ≡ true
+          sole-first (pins p) u = unfold whoseBody in rw u (unfold whose isOf in refl)
+          sole-first (mr4 v) u = unfold whoseBody in rw u (unfold isOf in refl)
       go true u k = rw (count-part 0 x past, count-part 1 x past) (omega (arith, pair u, k))
 
   sums : (past : Past) (es : List Entry) → Sum past ≡ commandCount past → Sum (pastOver card past es) ≡ commandCount (pastOver card past es)

@@ -20,7 +20,7 @@ OnBus a = (a ≡ lastRD) ⊎ ((a ≡ lastRDorMRR) ⊎ (a ≡ lastWR))
 abbrev pub source : (Question → Asked) → Ask → ℕ → (ℕ → ℕ) → Source Asked ℕ
 source whom a b d = record { ask = whom (record { ask = a; bank = b }); delay = d }
 
-every-both : {A : Type 0} (P : A → Type 0) (xs ys : List A) → Every P xs → Every P ys → Every P (xs ++ ys)
+pub every-both : {A : Type 0} (P : A → Type 0) (xs ys : List A) → Every P xs → Every P ys → Every P (xs ++ ys)
 unfolding Every
 every-both P [] ys p q = q
 every-both P (x ∷ xs) ys p q = (p .0, every-both P xs ys (p .1) q)

@@ -12,16 +12,16 @@ use lib.Signed.{leZ}
 use borrow.Author.Tests.{le-leb, eqb-true, ne-eqb}
 use Rattle.rules.specs.Lists.{isOneOf}
 use Rattle.rules.specs.Card.{Card}
-use Rattle.rules.specs.Units.{interval}
+use Rattle.rules.specs.Heat.{startMR4, intervalAt}
 use Rattle.rules.specs.Commands.{Command, REFPB, REFAB, MRW, code, kindOf, bare, carries, is}
 use Rattle.rules.specs.Registers.{mr2Good, mr1Good, mayWrite}
 use Rattle.rules.specs.Ranges.{cardGood}
-use Rattle.rules.specs.Levels.{selfRefresh, Move, risesFrom, Read, plain, moved, asleep, barred, clash}
+use Rattle.rules.specs.Levels.{selfRefresh, Move, risesFrom, Read, plain, moved, asleep, barred, clash, sensed}
 use Rattle.rules.specs.Whose.{isOf, parts}
 use Rattle.rules.specs.Past.{Past, ofPart, lastCycle, registerAfter, register, mr2At, counterAfter, counterAt, stampsWhere, countedStamps}
 use Rattle.rules.specs.Folds.{orElse}
 use Rattle.rules.specs.Account.{lpddr3, isDue, every, cycle, ledgerBefore, ledgerAfter, lastCounted, onBeat, failing, Book, ledgerOn, lastOn, failingOn, firstOn}
-use Rattle.rules.specs.Clock.{countedFrom, clock, beatOf, scheduleOf, bookOf, booksOf}
+use Rattle.rules.specs.Clock.{countedFrom, clock, beatAt, scheduleOf, bookOf, booksOf}
 use Rattle.rules.specs.Entries.{Entry, whoseOf, readAfter, readFor, recordedAs, judgedAs, taken, takenFor, pastWith}
 use Rattle.rules.specs.Checks.{valueGood, entryRefusal}
 use Rattle.rules.specs.Reading.{AllPass, plainly, Above, paidBelow, paidAt, entryReads}
@@ -30,12 +30,12 @@ use Rattle.rules.proofs.Tests.{lt-cases, eq-cases}
 use Rattle.rules.proofs.CardGood.{good-parts}
 use Rattle.rules.proofs.Biased.{owed, ledger-biased, le-biased}
 use Rattle.rules.proofs.Rounds.{AllBelow, Rising, below-more}
-use Rattle.rules.proofs.Filtered.{IsPart, every-at, own-part, of-next, below-part, rising-part}
+use Rattle.rules.proofs.Filtered.{IsPart, every-at, own-read, of-next, below-part, rising-part}
 use Rattle.rules.proofs.Decided.{none-orElse, paid-iff, none-in, none-at}
 use Rattle.rules.proofs.Exactly.{entry-decides}
 use Rattle.rules.proofs.Refreshed.{above-all, within-limit}
 use Rattle.rules.proofs.Clocks.{Orderly, start-orderly, taken-orderly}
-use Rattle.rules.proofs.Ledgers.{first-with}
+use Rattle.rules.proofs.Owings.{first-with}
 
 -- what an entry that passed its checks has
 pub record Passed (card : Card) (past : Past) (e : Entry) : Type 0 where
@@ -47,7 +47,7 @@ pub record Passed (card : Card) (past : Past) (e : Entry) : Type 0 where
 pub passed : (card : Card) (past : Past) (e : Entry) → entryRefusal card past e ≡ none → Passed card past e
 unfolding AllPass entryReads plainly paidBelow paidAt booksOf hasPart
 passed card past e h =
-    let (above, (before, (bits, (selects, (kind, (state, (permitted, (value, (delays, (here, end)))))))))) = entry-decides card past e .passing .0 h in
+    let (above, (before, (bits, (selects, (kind, (state, (permitted, (value, (code, (delays, (here, end))))))))))) = entry-decides card past e .passing .0 h in
     record {
       above = above;
       value = value;
@@ -84,8 +84,8 @@ unfolding onBeat every
 start-free I = let z : 0 + I - I ≡ 0 = omega arith in ap (isDue I) z ∙ (unfold isDue in refl)
 
 pub owing-start : (card : Card) → ledgerOn (lpddr3 .credit) (bookOf card []) 0 ≡ pos 0
-unfolding ledgerOn ledgerAfter ledgerBefore cycle bookOf scheduleOf beatOf clock countedFrom countedStamps stampsWhere isOneOf
-owing-start card = rw (start-free (interval card))
+unfolding ledgerOn ledgerAfter ledgerBefore cycle bookOf scheduleOf beatAt clock countedFrom countedStamps stampsWhere isOneOf
+owing-start card = rw (start-free (intervalAt card startMR4))
 
 -- what is recorded has a value that may be written, if what is judged has: it is that command, or NOP
 pub recorded-good : (card : Card) (r : Read) → valueGood card (judgedAs r) ≡ true → valueGood card (recordedAs r) ≡ true
@@ -95,6 +95,7 @@ recorded-good card (moved m) h = refl
 recorded-good card asleep h = refl
 recorded-good card barred h = refl
 recorded-good card clash h = refl
+recorded-good card (sensed v) h = refl
 
 -- no ledger was moved on behind the last entry
 abbrev pub unmoved : ℕ → ℕ
@@ -141,8 +142,8 @@ module _ (card : Card) where
       go false false e k = g
 
   own-value : (p : ℕ) (t : Past) (e : Entry) → isOf p (whoseOf card e) ≡ true → Passed card t e → valueGood card (taken card (ofPart p t) e .cmd) ≡ true
-  unfolding taken readFor
-  own-value p t e i x = recorded-good card (readAfter card (ofPart p t) e) (rw (own-part card t e p i) at (x .value))
+  unfolding taken
+  own-value p t e i x = recorded-good card (readAfter card (ofPart p t) e) (rw (own-read card t p e i) at (x .value))
 
   pub mr2-good : cardGood card ≡ true → (p : ℕ) (past : Past) → AllTaken card past → mr2Good (card .period) (mr2At card (ofPart p past)) ≡ true
   unfolding mr2At register
@@ -157,23 +158,23 @@ module _ (card : Card) where
       below-above [] b = unfold Above in tt
       below-above (x ∷ own) b = unfold Above AllBelow in b .0
 
-  -- an entry changes nothing below its stamp
-  first-next : (p : ℕ) (past : Past) (e : Entry) → AllTaken card past → Above past (e .stamp) → (t : ℕ) → t ≤ e .stamp →
-      firstOn lpddr3 (bookOf card (ofPart p (pastWith card past e))) t ≡ firstOn lpddr3 (bookOf card (ofPart p past)) t
-  first-next p past e all a t h = rw (of-next card p past e) (go (isOf p (whoseOf card e)))
+  -- what is paid below an entry's stamp stays so
+  first-next : (p : ℕ) (past : Past) (e : Entry) → AllTaken card past → Above past (e .stamp) →
+      firstOn lpddr3 (bookOf card (ofPart p past)) (e .stamp) ≡ none → firstOn lpddr3 (bookOf card (ofPart p (pastWith card past e))) (e .stamp) ≡ none
+  first-next p past e all a h = rw (of-next card p past e) (go (isOf p (whoseOf card e)))
     where
-      go : (y : Bool) → firstOn lpddr3 (bookOf card (cond y (taken card (ofPart p past) e ∷ ofPart p past) (ofPart p past))) t ≡ firstOn lpddr3 (bookOf card (ofPart p past)) t
-      go true = first-with card (ofPart p past) e (rising-part p past (rising past all)) (orderly p past all) (above-part p past (e .stamp) (rising past all) a) t h
-      go false = refl
+      go : (y : Bool) → firstOn lpddr3 (bookOf card (cond y (taken card (ofPart p past) e ∷ ofPart p past) (ofPart p past))) (e .stamp) ≡ none
+      go true = first-with card (ofPart p past) e (rising-part p past (rising past all)) (orderly p past all) (above-part p past (e .stamp) (rising past all) a) h
+      go false = h
 
   pub paid-with : (p : ℕ) → IsPart card p → (past : Past) (e : Entry) → AllTaken card past → Passed card past e →
       firstOn lpddr3 (bookOf card (ofPart p (pastWith card past e))) (suc (e .stamp)) ≡ none
   unfolding firstOn
-  paid-with p i past e all x = none-orElse (first-next p past e all (x .above) (e .stamp) (omega arith) ∙ x .before p i) (x .here p i)
+  paid-with p i past e all x = none-orElse (first-next p past e all (x .above) (x .before p i)) (x .here p i)
 
   fine-start : failingOn lpddr3 (bookOf card []) 0 ≡ none
   unfolding failingOn failing lastOn lastCounted bookOf scheduleOf clock countedFrom countedStamps stampsWhere lpddr3
-  fine-start = rw (owing-start card) (rw (le-leb 0 (9 * beatOf card .span) (omega arith)))
+  fine-start = rw (owing-start card) (rw (le-leb 0 (9 * beatAt card [] .span) (omega arith)))
 
   paid-none : firstOn lpddr3 (bookOf card []) 1 ≡ none
   unfolding firstOn orElse

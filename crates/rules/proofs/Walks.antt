@@ -1,8 +1,9 @@
--- Files by any judge of fields; and that two judges say the same of a file, where they do the same with every field that it comes to. So that a file which
--- uses nothing of a request has the verdict it had is proved of what the request changed, and each such theorem follows on the last.
-use Prim.Native.Nat.{ℕ, zero, suc, _+_, _*_}
-use mathlib.Core.Path.{_≡_, refl, ap, sym, _∙_}
-use mathlib.Core.Logic.{_⊎_, inl, inr}
+-- Files by any judge of fields; and that two judges say the same of a file, where they do the same with every field that it comes to, or a tag comes that only
+-- one of them knows. So that a file which uses nothing of a request has the verdict it had is proved of what the request changed, and each such theorem
+-- follows on the last.
+use Prim.Native.Nat.{ℕ, zero, suc, _+_, _*_, _<_}
+use mathlib.Core.Path.{_≡_, refl, ap, sym, _∙_, subst}
+use mathlib.Core.Logic.{_⊎_, inl, inr, ⊎-elim}
 use mathlib.Core.Bool.{Bool, true, false, cond}
 use mathlib.Core.List.{List, [], _∷_, _++_, append-assoc}
 use mathlib.Core.Option.{Option, none, some}
@@ -10,21 +11,24 @@ use native.Mathlib.Omega.{arith}
 use lib.Dec.{eqb}
 use lib.ListN.{length, length-append}
 use borrow.Author.Tests.{eqb-true}
+use Rattle.rules.specs.Lists.{Every}
 use Rattle.rules.specs.Card.{Card}
 use Rattle.rules.specs.Past.{Taken, Past, commandCount}
-use Rattle.rules.specs.Entries.{Entry, pastWith}
+use Rattle.rules.specs.Entries.{Entry, takenFor, pastWith}
 use Rattle.rules.specs.Checks.{Refusal, entryRefusal, endRefusal}
 use Rattle.rules.specs.Verdict.{refreshCount, ledgersAt}
-use Rattle.rules.specs.Form.{Field, bytesOf, sizeOf, ofTrace, mayCome, lengthGood, Head, whole, cut, badTag, badLength, valued, sized, headOf, cardOf, fieldGood, entryOf, endOf}
+use Rattle.rules.specs.Form.{Field, bytesOf, sizeOf, cardWhole, ofEntry, ofTrace, mayFollow, mayCome, lengthGood, Head, whole, cut, badTag, badLength, valued, sized, headOf, cardOf, fieldGood, entryOf, endOf}
 use Rattle.rules.specs.File.{FileVerdict, accepted, refused, Step, goesOn, ends, orRefused, cardStep, entryStep, acceptedAt, closing, endStep, byHead, begun, stepOf, Judged, fileFrom, judged}
-use Rattle.rules.specs.FileReading.{cardBytes}
+use Rattle.rules.specs.FileReading.{RightForm, CardRight, EntryField, cardBytes, entriesBytes}
+use Rattle.rules.proofs.Table.{every-both}
 use Rattle.rules.proofs.FileHeads.{by-value}
+use Rattle.rules.proofs.FileSteps.{any-form, no-more, entry-tag, entry-high, next-small}
 
--- which tag may come; what refuses an entry, and the past behind it; what refuses an end, and the verdict there
+-- which tag may come; what refuses an entry, and what it is taken as; what refuses an end, and the verdict there
 pub record Judge : Type 0 where
   pub come : (entries : Bool) → List Field → ℕ → Bool
   pub entry : Card → Past → Entry → Option Refusal
-  pub next : Card → Past → Entry → Past
+  pub taken : Card → Past → Entry → Taken
   pub end : Card → Past → ℕ → Option Refusal
   pub verdict : Card → Past → ℕ → FileVerdict
 
@@ -34,12 +38,12 @@ module _ (j : Judge) where
   headBy b fs (t ∷ bs) = cond (j .come b fs t) (sized t bs) badTag
 
   unfoldable pub entryBy : List Field → Past → ℕ → Field → List ℕ → Step
-  entryBy fs past at f rest = orRefused at (j .entry (cardOf fs) past (entryOf f)) (goesOn fs (j .next (cardOf fs) past (entryOf f)) (at + sizeOf f) rest)
+  entryBy fs past at f rest = orRefused at (j .entry (cardOf fs) past (entryOf f)) (goesOn fs (j .taken (cardOf fs) past (entryOf f) ∷ past) (at + sizeOf f) rest)
 
   unfoldable pub endBy : List Field → Past → ℕ → Field → List ℕ → Step
   endBy fs past at f rest = orRefused at (j .end (cardOf fs) past (endOf f)) (closing (j .verdict (cardOf fs) past (endOf f)) (at + sizeOf f) rest)
 
-  -- a field is an entry, the end, or one of the card; what it is not is not looked at
+  -- a field is an entry, the end, or one of the card, and what it is not is not looked at; a judge that does not know a tag lets it not come
   abbrev pick : List Field → Past → ℕ → Field → List ℕ → (entry end : Bool) → Step
   pick fs past at f rest x y = elim x [
     | true ↦ entryBy fs past at f rest
@@ -50,7 +54,7 @@ module _ (j : Judge) where
   byHeadBy fs past at cut = ends (refused 1 0 at 0)
   byHeadBy fs past at badTag = ends (refused 2 0 at 0)
   byHeadBy fs past at badLength = ends (refused 3 0 at 0)
-  byHeadBy fs past at (whole f rest) = pick fs past at f rest (eqb (f .tag) 32) (eqb (f .tag) 33)
+  byHeadBy fs past at (whole f rest) = pick fs past at f rest (ofEntry (f .tag)) (eqb (f .tag) 33)
 
   unfoldable pub stepBy : List Field → Past → ℕ → List ℕ → Step
   stepBy fs past at bs = byHeadBy fs past at (headBy (begun past) fs bs)
@@ -68,7 +72,7 @@ unfoldable pub defined : Judge
 defined = record {
   come = mayCome;
   entry = entryRefusal;
-  next = pastWith;
+  taken = takenFor;
   end = endRefusal;
   verdict = λ card past end. accepted (commandCount past) (refreshCount card past) (ledgersAt card past end);
 }
@@ -85,10 +89,10 @@ defined-step fs past at bs = ap (byHeadBy defined fs past at) (head (begun past)
     by cut = unfold byHeadBy byHead in refl
     by badTag = unfold byHeadBy byHead in refl
     by badLength = unfold byHeadBy byHead in refl
-    by (whole f rest) = unfold byHeadBy byHead in go (eqb (f .tag) 32) (eqb (f .tag) 33)
+    by (whole f rest) = unfold byHeadBy byHead in go (ofEntry (f .tag)) (eqb (f .tag) 33)
       where
         go : (x y : Bool) → pick defined fs past at f rest x y ≡ cond x (entryStep fs past at f rest) (cond y (endStep fs past at f rest) (cardStep fs past at f rest))
-        go true y = unfold entryBy defined entryStep in refl
+        go true y = unfold entryBy defined entryStep pastWith in refl
         go false true = unfold endBy defined endStep acceptedAt in refl
         go false false = refl
 
@@ -167,148 +171,264 @@ stands j b fs (t ∷ bs) = go (j .come b fs t) refl
     go true m = sized-stands (j .come b fs) t bs m
     go false m = is-bad-tag
 
--- ---- two judges at one place: they agree on the tag that stands there; where an entry may come, on any entry; and where the end may, on any end
-pub record Agree (a b : Judge) (fs : List Field) (past : Past) (bs : List ℕ) : Type 0 where
-  pub come : (t : ℕ) (rest : List ℕ) → bs ≡ t ∷ rest → a .come (begun past) fs t ≡ b .come (begun past) fs t
-  pub entry : b .come (begun past) fs 32 ≡ true → (e : Entry) → a .entry (cardOf fs) past e ≡ b .entry (cardOf fs) past e
-  pub next : b .come (begun past) fs 32 ≡ true → (e : Entry) → a .next (cardOf fs) past e ≡ b .next (cardOf fs) past e
-  pub end : b .come (begun past) fs 33 ≡ true → (t : ℕ) → a .end (cardOf fs) past t ≡ b .end (cardOf fs) past t
-  pub verdict : b .come (begun past) fs 33 ≡ true → (t : ℕ) → b .end (cardOf fs) past t ≡ none → a .verdict (cardOf fs) past t ≡ b .verdict (cardOf fs) past t
+-- ---- up to a place all is of right form: the fields of the card and, behind a whole one, entries; the offset is the number of their bytes
+-- there is a field
+unfoldable pub anyOf : List Field → Bool
+anyOf [] = false
+anyOf (f ∷ fs) = true
 
-agree-step : (a b : Judge) (fs : List Field) (past : Past) (at : ℕ) (bs : List ℕ) → Agree a b fs past bs → stepBy a fs past at bs ≡ stepBy b fs past at bs
-unfolding stepBy
-agree-step a b fs past at bs g = ap (byHeadBy a fs past at) (head bs (g .come)) ∙ by (stands b (begun past) fs bs)
+record Place (bytes : List ℕ) (fs : List Field) (past : Past) (at : ℕ) (bs : List ℕ) : Type 0 where
+  right : CardRight fs
+  behind : begun past ≡ true → cardWhole fs ≡ true
+  es : List Field
+  entries : Every (EntryField fs) es
+  came : begun past ≡ anyOf es
+  split : bytes ≡ cardBytes fs ++ (entriesBytes es ++ bs)
+  offset : at ≡ length (cardBytes fs) + length (entriesBytes es)
+
+-- an entry and the end come behind a whole card
+whole-before : (b : Bool) (fs : List Field) → CardRight fs → (t : ℕ) → 31 < t → mayCome b fs t ≡ true → cardWhole fs ≡ true
+unfolding mayCome mayFollow cardWhole
+whole-before b fs r t l m = go (cardWhole fs) refl
   where
-    head : (bs : List ℕ) → ((t : ℕ) (rest : List ℕ) → bs ≡ t ∷ rest → a .come (begun past) fs t ≡ b .come (begun past) fs t) →
-        headBy a (begun past) fs bs ≡ headBy b (begun past) fs bs
-    head [] h = unfold headBy in refl
-    head (t ∷ rest) h = unfold headBy in rw (h t rest refl)
-
-    entered : (f : Field) (rest : List ℕ) → b .come (begun past) fs 32 ≡ true → entryBy a fs past at f rest ≡ entryBy b fs past at f rest
-    entered f rest m = unfold entryBy in rw (g .entry m (entryOf f), g .next m (entryOf f))
-
-    ended : (f : Field) (rest : List ℕ) → b .come (begun past) fs 33 ≡ true → endBy a fs past at f rest ≡ endBy b fs past at f rest
-    ended f rest m = unfold endBy in rw (g .end m (endOf f)) (go (b .end (cardOf fs) past (endOf f)) refl)
+    go : (x : Bool) → cardWhole fs ≡ x → cardWhole fs ≡ true
+    go true w = w
+    go false w = absurd (never (eqb-true t (suc _) (unfold cardWhole in rw w at m)) (next-small fs r w))
       where
-        go : (o : Option Refusal) → b .end (cardOf fs) past (endOf f) ≡ o →
-            orRefused at o (closing (a .verdict (cardOf fs) past (endOf f)) (at + sizeOf f) rest)
-            ≡ orRefused at o (closing (b .verdict (cardOf fs) past (endOf f)) (at + sizeOf f) rest)
-        go none e = rw (g .verdict m (endOf f) e)
-        go (some x) e = unfold orRefused in refl
+        never : {n : ℕ} → t ≡ suc n → suc n < 32 → ⊥
+        never e k = omega arith
 
-    field : (f : Field) (rest : List ℕ) → b .come (begun past) fs (f .tag) ≡ true → (x y : Bool) → eqb (f .tag) 32 ≡ x → eqb (f .tag) 33 ≡ y →
-        pick a fs past at f rest x y ≡ pick b fs past at f rest x y
-    field f rest m true y p q = entered f rest (rw (eqb-true (f .tag) 32 p) at m)
-    field f rest m false true p q = ended f rest (rw (eqb-true (f .tag) 33 q) at m)
-    field f rest m false false p q = refl
+more-bytes : (es : List Field) (f : Field) (rest : List ℕ) → entriesBytes (es ++ (f ∷ [])) ++ rest ≡ entriesBytes es ++ (bytesOf f ++ rest)
+unfolding entriesBytes
+more-bytes [] f rest = append-assoc (bytesOf f) [] rest
+more-bytes (x ∷ es) f rest =
+    append-assoc (bytesOf x) (entriesBytes (es ++ (f ∷ []))) rest ∙ ap (λ (l : List ℕ). bytesOf x ++ l) (more-bytes es f rest)
+    ∙ sym (append-assoc (bytesOf x) (entriesBytes es) (bytesOf f ++ rest))
 
-    by : {cs : List ℕ} {h : Head} → Stands (b .come (begun past) fs) cs h → byHeadBy a fs past at h ≡ byHeadBy b fs past at h
-    by (is-field f rest m s) = unfold byHeadBy in field f rest m (eqb (f .tag) 32) (eqb (f .tag) 33) refl refl
-    by is-cut = unfold byHeadBy in refl
-    by is-bad-tag = unfold byHeadBy in refl
-    by is-bad-length = unfold byHeadBy in refl
+more-length : (es : List Field) (f : Field) → length (entriesBytes (es ++ (f ∷ []))) ≡ length (entriesBytes es) + sizeOf f
+unfolding entriesBytes sizeOf bytesOf
+more-length [] f = rw length-append (omega arith)
+more-length (x ∷ es) f = simp (length-append, more-length es f) (omega arith)
 
--- ---- two judges over a file. `At` holds of each place that it comes to: of the fields of the card and the entries that were taken, the offset, and the
--- bytes that are left. Where it does the judges agree, and it holds behind a good field of the card and behind an entry that is taken; or b ends the file
--- there, with what it says of it `Moved`
-module _ (a b : Judge) (At : List Field → Past → ℕ → List ℕ → Type 0) (Moved : Judged → Type 0) where
-  pub record Kept (fs : List Field) (past : Past) (at : ℕ) (bs : List ℕ) : Type 0 where
-    pub agrees : Agree a b fs past bs
-    pub card : (f : Field) (rest : List ℕ) → bs ≡ bytesOf f ++ rest → b .come (begun past) fs (f .tag) ≡ true → Sized f → ofTrace (f .tag) ≡ false →
-        fieldGood fs f ≡ true → At (f ∷ fs) past (at + sizeOf f) rest
-    pub entry : (f : Field) (rest : List ℕ) → b .come (begun past) fs 32 ≡ true → b .entry (cardOf fs) past (entryOf f) ≡ none →
-        At fs (b .next (cardOf fs) past (entryOf f)) (at + sizeOf f) rest
-
-  pub data Here (fs : List Field) (past : Past) (at : ℕ) (bs : List ℕ) : Type 0 where
-    kept : Kept fs past at bs → Here fs past at bs
-    moved : (v : FileVerdict) → stepBy b fs past at bs ≡ ends v → Moved (record { past = past; verdict = v }) → Here fs past at bs
-
-  abbrev On : Step → Type 0
-  On (goesOn fs past at rest) = At fs past at rest
-  On (ends v) = Unit {0}
-
-  on-step : (fs : List Field) (past : Past) (at : ℕ) (bs : List ℕ) → Kept fs past at bs → On (stepBy b fs past at bs)
-  unfolding stepBy
-  on-step fs past at bs k = by k (stands b (begun past) fs bs)
-    where
-      entered : (f : Field) (rest cs : List ℕ) → Kept fs past at cs → b .come (begun past) fs 32 ≡ true → (o : Option Refusal) → b .entry (cardOf fs) past (entryOf f) ≡ o →
-          On (orRefused at o (goesOn fs (b .next (cardOf fs) past (entryOf f)) (at + sizeOf f) rest))
-      entered f rest cs k m none q = unfold orRefused in k .entry f rest m q
-      entered f rest cs k m (some x) q = unfold orRefused in tt
-
-      ended : (o : Option Refusal) (v : FileVerdict) (n : ℕ) (rest : List ℕ) → On (orRefused at o (closing v n rest))
-      ended none v n [] = unfold orRefused closing in tt
-      ended none v n (c ∷ cs) = unfold orRefused closing in tt
-      ended (some x) v n rest = unfold orRefused in tt
-
-      carded : (f : Field) (rest cs : List ℕ) → Kept fs past at cs → cs ≡ bytesOf f ++ rest → b .come (begun past) fs (f .tag) ≡ true → Sized f →
-          ofTrace (f .tag) ≡ false → (x : Bool) → fieldGood fs f ≡ x → On (cond x (goesOn (f ∷ fs) past (at + sizeOf f) rest) (ends (refused 4 0 at 0)))
-      carded f rest cs k e m s o true g = k .card f rest e m s o g
-      carded f rest cs k e m s o false g = tt
-
-      field : (f : Field) (rest cs : List ℕ) → Kept fs past at cs → cs ≡ bytesOf f ++ rest → b .come (begun past) fs (f .tag) ≡ true → Sized f →
-          (x y : Bool) → eqb (f .tag) 32 ≡ x → eqb (f .tag) 33 ≡ y → On (pick b fs past at f rest x y)
-      field f rest cs k e m s true y p q = unfold entryBy in entered f rest cs k (rw (eqb-true (f .tag) 32 p) at m) (b .entry (cardOf fs) past (entryOf f)) refl
-      field f rest cs k e m s false true p q = unfold endBy in ended (b .end (cardOf fs) past (endOf f)) _ _ rest
-      field f rest cs k e m s false false p q = unfold cardStep in carded f rest cs k e m s (unfold ofTrace in rw (p, q)) (fieldGood fs f) refl
-
-      by : {cs : List ℕ} {h : Head} → Kept fs past at cs → Stands (b .come (begun past) fs) cs h → On (byHeadBy b fs past at h)
-      by k (is-field f rest m s) = unfold byHeadBy in field f rest (bytesOf f ++ rest) k refl m s (eqb (f .tag) 32) (eqb (f .tag) 33) refl refl
-      by k is-cut = unfold byHeadBy in tt
-      by k is-bad-tag = unfold byHeadBy in tt
-      by k is-bad-length = unfold byHeadBy in tt
-
-  module _ (here : (fs : List Field) (past : Past) (at : ℕ) (bs : List ℕ) → At fs past at bs → Here fs past at bs) where
-    walk : (k : ℕ) (fs : List Field) (past : Past) (at : ℕ) (bs : List ℕ) → At fs past at bs →
-        (fileBy a k fs past at bs ≡ fileBy b k fs past at bs) ⊎ Moved (fileBy b k fs past at bs)
-    walk zero fs past at bs h = unfold fileBy in inl refl
-    walk (suc k) fs past at bs h = by (here fs past at bs h) (λ fs′ past′ at′ rest g. walk k fs′ past′ at′ rest g)
-      where
-        Further : Type 0
-        Further = (fs′ : List Field) (past′ : Past) (at′ : ℕ) (rest : List ℕ) → At fs′ past′ at′ rest →
-            (fileBy a k fs′ past′ at′ rest ≡ fileBy b k fs′ past′ at′ rest) ⊎ Moved (fileBy b k fs′ past′ at′ rest)
-
-        on : (s : Step) → On s → Further → (behind (fileBy a k) past s ≡ behind (fileBy b k) past s) ⊎ Moved (behind (fileBy b k) past s)
-        on (goesOn fs′ past′ at′ rest) g ih = unfold behind in ih fs′ past′ at′ rest g
-        on (ends v) g ih = unfold behind in inl refl
-
-        by : Here fs past at bs → Further → (fileBy a (suc k) fs past at bs ≡ fileBy b (suc k) fs past at bs) ⊎ Moved (fileBy b (suc k) fs past at bs)
-        by (kept g) ih = rw (by-step a k fs past at bs, by-step b k fs past at bs, agree-step a b fs past at bs (g .agrees)) (on (stepBy b fs past at bs) (on-step fs past at bs g) ih)
-        by (moved v e m) ih = inr (rw (by-step b k fs past at bs, e) (unfold behind in m))
-
-    pub agree : (bytes : List ℕ) → At [] [] 0 bytes → (judgedBy a bytes ≡ judgedBy b bytes) ⊎ Moved (judgedBy b bytes)
-    unfolding judgedBy
-    agree bytes h = walk (suc (length bytes)) [] [] 0 bytes h
-
--- ---- up to a place before the first entry, the bytes are those of the card's fields, and the offset is their number
-pub record Place (bytes : List ℕ) (fs : List Field) (past : Past) (at : ℕ) (bs : List ℕ) : Type 0 where
-  pub split : begun past ≡ false → bytes ≡ cardBytes fs ++ bs
-  pub offset : begun past ≡ false → at ≡ length (cardBytes fs)
+any-more : (es : List Field) (f : Field) → anyOf (es ++ (f ∷ [])) ≡ true
+unfolding anyOf
+any-more [] f = refl
+any-more (x ∷ es) f = refl
 
 module _ {bytes : List ℕ} where
-  pub place-start : Place bytes [] [] 0 bytes
-  unfolding cardBytes
-  place-start = record { split = λ b. refl; offset = λ b. refl }
-
-  pub place-card : (fs : List Field) (past : Past) (at : ℕ) (bs : List ℕ) → Place bytes fs past at bs → (f : Field) (rest : List ℕ) → bs ≡ bytesOf f ++ rest →
-      Place bytes (f ∷ fs) past (at + sizeOf f) rest
-  unfolding cardBytes
-  place-card fs past at bs p f rest e = record {
-    split = λ b. p .split b ∙ ap (λ (l : List ℕ). cardBytes fs ++ l) e ∙ sym (append-assoc (cardBytes fs) (bytesOf f) rest);
-    offset = λ b. longer (p .offset b);
+  place-start : Place bytes [] [] 0 bytes
+  unfolding cardBytes entriesBytes
+  place-start = record {
+    right = unfold CardRight in tt;
+    behind = λ b. absurd (not-begun b);
+    es = [];
+    entries = unfold Every in tt;
+    came = unfold begun anyOf in refl;
+    split = refl;
+    offset = refl;
   }
     where
-      longer : at ≡ length (cardBytes fs) → at + sizeOf f ≡ length (cardBytes fs ++ bytesOf f)
-      longer e = rw (length-append, e) (unfold sizeOf bytesOf in omega arith)
+      not-begun : begun [] ≡ true → ⊥
+      not-begun b = let q : false ≡ true = unfold begun in b in let z : _≡_ {A = ℕ} 0 1 = cc in omega arith
 
-  pub place-entry : (fs : List Field) (e : Taken) (past : Past) (at : ℕ) (bs : List ℕ) → Place bytes fs (e ∷ past) at bs
-  place-entry fs e past at bs = record { split = λ b. absurd (never b); offset = λ b. absurd (never b) }
-    where
-      never : begun (e ∷ past) ≡ false → ⊥
-      never b = let q : true ≡ false = unfold begun in b in let z : _≡_ {A = ℕ} 0 1 = cc in omega arith
+  module _ (fs : List Field) (past : Past) (at : ℕ) (f : Field) (rest : List ℕ) (p : Place bytes fs past at (bytesOf f ++ rest))
+      (form : RightForm (begun past) fs f) where
+    -- a field of the card comes before the first entry
+    before-entries : ofTrace (f .tag) ≡ false → begun past ≡ false
+    before-entries o = go (begun past) refl
+      where
+        go : (x : Bool) → begun past ≡ x → begun past ≡ false
+        go true b = absurd (no-more fs f (rw b at form) (p .behind b) o)
+        go false b = b
+
+    place-card : ofTrace (f .tag) ≡ false → fieldGood fs f ≡ true → Place bytes (f ∷ fs) past (at + sizeOf f) rest
+    place-card o g = go (p .es) (p .came) (p .split) (p .offset)
+      where
+        b : begun past ≡ false
+        b = before-entries o
+
+        never : {x y : Bool} → x ≡ false → x ≡ y → y ≡ true → ⊥
+        never p q r = let z : true ≡ false = cc in let y : _≡_ {A = ℕ} 0 1 = cc in omega arith
+
+        go : (es : List Field) → begun past ≡ anyOf es → bytes ≡ cardBytes fs ++ (entriesBytes es ++ (bytesOf f ++ rest)) →
+            at ≡ length (cardBytes fs) + length (entriesBytes es) → Place bytes (f ∷ fs) past (at + sizeOf f) rest
+        go (x ∷ es) c e n = absurd (never b c (unfold anyOf in refl))
+        go [] c e n = record {
+          right = unfold CardRight in (rw b at form, o, g, p .right);
+          behind = λ q. absurd (never b refl q);
+          es = [];
+          entries = unfold Every in tt;
+          came = c;
+          split = unfold cardBytes entriesBytes in (unfold entriesBytes in e) ∙ sym (append-assoc (cardBytes fs) (bytesOf f) rest);
+          offset = unfold cardBytes entriesBytes sizeOf bytesOf in rw length-append (unfold entriesBytes in omega (arith, n));
+        }
+
+    place-entry : ofEntry (f .tag) ≡ true → (e : Taken) → Place bytes fs (e ∷ past) (at + sizeOf f) rest
+    place-entry o e = record {
+      right = p .right;
+      behind = λ b. whole-before (begun past) fs (p .right) (f .tag) (entry-high (f .tag) o) (form .tag);
+      es = p .es ++ (f ∷ []);
+      entries = every-both (EntryField fs) (p .es) (f ∷ []) (p .entries) (unfold Every in (record { form = any-form true fs f (entry-tag (f .tag) o) form; isEntry = o }, tt));
+      came = unfold begun in sym (any-more (p .es) f);
+      split = p .split ∙ ap (λ (l : List ℕ). cardBytes fs ++ l) (sym (more-bytes (p .es) f rest));
+      offset = omega (arith, p .offset, more-length (p .es) f);
+    }
+
+-- ---- a newer judge and an older one, which knows fewer tags. `Is` says which tags it does not know, behind entries or not, and behind these fields of the card
+-- one of them stands in the file, behind a right card that could end and entries of right form
+pub record Newer (Is : (entries : Bool) → List Field → ℕ → Type 0) (bytes : List ℕ) : Type 0 where
+  pub fs : List Field
+  pub es : List Field
+  pub tag : ℕ
+  pub rest : List ℕ
+  pub card : CardRight fs
+  pub whole : cardWhole fs ≡ true
+  pub entries : Every (EntryField fs) es
+  pub is : Is (anyOf es) fs tag
+  pub split : bytes ≡ cardBytes fs ++ (entriesBytes es ++ (tag ∷ rest))
+
+-- and what was said of the file is a wrong tag there
+pub record Met (Is : (entries : Bool) → List Field → ℕ → Type 0) (bytes : List ℕ) (j : Judged) : Type 0 where
+  pub there : Newer Is bytes
+  pub verdict : j .verdict ≡ refused 2 0 (length (cardBytes (there .fs)) + length (entriesBytes (there .es))) 0
+
+-- both judges' tests of a tag: they agree, or the older one's fails, where the card could end, and P
+abbrev pub TagTests : (newer older whole : Bool) → Type 0 → Type 0
+TagTests x y w P = (x ≡ y) ⊎ ((y ≡ false) × (w ≡ true) × P)
+
+pub tests-as : {x y v w : Bool} {P Q : Type 0} → (v ≡ true → P → (w ≡ true) × Q) → TagTests x y v P → TagTests x y w Q
+tests-as f (inl e) = inl e
+tests-as f (inr n) = let q = f (n .1) (n .2) in inr (n .0, q .0, q .1)
+
+-- so the newer one lets come what the older one does
+pub still-comes : {x y w : Bool} {P : Type 0} → TagTests x y w P → y ≡ true → x ≡ true
+still-comes (inl e) m = e ∙ m
+still-comes (inr n) m = let z : true ≡ false = sym m ∙ n .0 in let y : _≡_ {A = ℕ} 0 1 = cc in absurd (omega arith)
+
+-- an entry field that a judge lets come, behind a whole card
+pub record Enters (j : Judge) (fs : List Field) (past : Past) (f : Field) : Type 0 where
+  pub whole : cardWhole fs ≡ true
+  pub may : j .come (begun past) fs (f .tag) ≡ true
+  pub isEntry : ofEntry (f .tag) ≡ true
+
+-- ---- two judges over a file, a the newer. `Also` holds at each place that the file comes to, of the fields of the card and the entries that were taken
+module _ (a b : Judge) (Is : (entries : Bool) → List Field → ℕ → Type 0) (Also : List Field → Past → Type 0) where
+  -- behind these they do the same, and `Also` is kept: with a tag, unless it `Is` so; with an entry that may come; and, behind a whole card, with the end
+  pub record Alike (fs : List Field) (past : Past) : Type 0 where
+    pub tag : (t : ℕ) → TagTests (a .come (begun past) fs t) (b .come (begun past) fs t) (cardWhole fs) (Is (begun past) fs t)
+    pub known : (t : ℕ) → b .come (begun past) fs t ≡ true → mayCome (begun past) fs t ≡ true
+    pub card : (f : Field) → begun past ≡ false → b .come (begun past) fs (f .tag) ≡ true → ofTrace (f .tag) ≡ false → Also (f ∷ fs) past
+    pub entry : (f : Field) → Enters b fs past f → a .entry (cardOf fs) past (entryOf f) ≡ b .entry (cardOf fs) past (entryOf f)
+    pub taken : (f : Field) → Enters b fs past f → a .taken (cardOf fs) past (entryOf f) ≡ b .taken (cardOf fs) past (entryOf f)
+    pub also : (f : Field) → Enters b fs past f → b .entry (cardOf fs) past (entryOf f) ≡ none → Also fs (b .taken (cardOf fs) past (entryOf f) ∷ past)
+    pub end : cardWhole fs ≡ true → (t : ℕ) → a .end (cardOf fs) past t ≡ b .end (cardOf fs) past t
+    pub verdict : cardWhole fs ≡ true → (t : ℕ) → b .end (cardOf fs) past t ≡ none → a .verdict (cardOf fs) past t ≡ b .verdict (cardOf fs) past t
+
+  module _ (alike : (fs : List Field) (past : Past) → CardRight fs → Also fs past → Alike fs past) (bytes : List ℕ) where
+    -- both go on, where all is still so, or both end
+    data Same : Step → Step → Type 0 where
+      on : {fs : List Field} {past : Past} {at : ℕ} {rest : List ℕ} → Place bytes fs past at rest → Also fs past → Same (goesOn fs past at rest) (goesOn fs past at rest)
+      off : {v : FileVerdict} → Same (ends v) (ends v)
+
+    module _ (fs : List Field) (past : Past) (at : ℕ) (q : Also fs past) where
+      entered : (f : Field) (rest : List ℕ) → Place bytes fs past at (bytesOf f ++ rest) → RightForm (begun past) fs f → Alike fs past → Enters b fs past f →
+          Same (entryBy a fs past at f rest) (entryBy b fs past at f rest)
+      unfolding entryBy
+      entered f rest p form k n = rw (k .entry f n, k .taken f n) (go (b .entry (cardOf fs) past (entryOf f)) refl)
+        where
+          go : (o : Option Refusal) → b .entry (cardOf fs) past (entryOf f) ≡ o →
+              Same (orRefused at o (goesOn fs (b .taken (cardOf fs) past (entryOf f) ∷ past) (at + sizeOf f) rest))
+              (orRefused at o (goesOn fs (b .taken (cardOf fs) past (entryOf f) ∷ past) (at + sizeOf f) rest))
+          go none e = unfold orRefused in on (place-entry fs past at f rest p form (n .isEntry) _) (k .also f n e)
+          go (some x) e = unfold orRefused in off
+
+      ended : (f : Field) (rest : List ℕ) → Alike fs past → cardWhole fs ≡ true → Same (endBy a fs past at f rest) (endBy b fs past at f rest)
+      unfolding endBy
+      ended f rest k w = rw (k .end w (endOf f)) (go rest (b .end (cardOf fs) past (endOf f)) refl)
+        where
+          go : (bs : List ℕ) (o : Option Refusal) → b .end (cardOf fs) past (endOf f) ≡ o →
+              Same (orRefused at o (closing (a .verdict (cardOf fs) past (endOf f)) (at + sizeOf f) bs))
+              (orRefused at o (closing (b .verdict (cardOf fs) past (endOf f)) (at + sizeOf f) bs))
+          go [] none e = rw (k .verdict w (endOf f) e) (unfold orRefused closing in off)
+          go (c ∷ cs) none e = unfold orRefused closing in off
+          go bs (some x) e = unfold orRefused in off
+
+      carded : (f : Field) (rest : List ℕ) → Place bytes fs past at (bytesOf f ++ rest) → RightForm (begun past) fs f → Alike fs past →
+          b .come (begun past) fs (f .tag) ≡ true → ofTrace (f .tag) ≡ false → Same (cardStep fs past at f rest) (cardStep fs past at f rest)
+      unfolding cardStep
+      carded f rest p form k m o = go (fieldGood fs f) refl
+        where
+          go : (x : Bool) → fieldGood fs f ≡ x →
+              Same (cond x (goesOn (f ∷ fs) past (at + sizeOf f) rest) (ends (refused 4 0 at 0))) (cond x (goesOn (f ∷ fs) past (at + sizeOf f) rest) (ends (refused 4 0 at 0)))
+          go true g = on (place-card fs past at f rest p form o g) (k .card f (before-entries fs past at f rest p form o) m o)
+          go false g = off
+
+      same-head : {cs : List ℕ} {h : Head} → Stands (b .come (begun past) fs) cs h → Place bytes fs past at cs → Same (byHeadBy a fs past at h) (byHeadBy b fs past at h)
+      unfolding byHeadBy
+      same-head is-cut p = off
+      same-head is-bad-tag p = off
+      same-head is-bad-length p = off
+      same-head (is-field f rest m s) p = go (ofEntry (f .tag)) (eqb (f .tag) 33) refl refl
+        where
+          k : Alike fs past
+          k = alike fs past (p .right) q
+
+          form : RightForm (begun past) fs f
+          form = record { tag = k .known (f .tag) m; size = s .size; whole = s .whole }
+
+          behind : 31 < f .tag → cardWhole fs ≡ true
+          behind l = whole-before (begun past) fs (p .right) (f .tag) l (form .tag)
+
+          go : (x y : Bool) → ofEntry (f .tag) ≡ x → eqb (f .tag) 33 ≡ y → Same (pick a fs past at f rest x y) (pick b fs past at f rest x y)
+          go true y u v = entered f rest p form k (record { whole = behind (entry-high (f .tag) u); may = m; isEntry = u })
+          go false true u v = let t = eqb-true (f .tag) 33 v in ended f rest k (behind (omega (arith, t)))
+          go false false u v = carded f rest p form k m (unfold ofTrace in rw (u, v))
+
+    abbrev Agrees : ℕ → List Field → Past → ℕ → List ℕ → Type 0
+    Agrees k fs past at bs = (fileBy a k fs past at bs ≡ fileBy b k fs past at bs) ⊎ Met Is bytes (fileBy b k fs past at bs)
+
+    module _ (k : ℕ) (fs : List Field) (past : Past) (at : ℕ) (q : Also fs past)
+        (further : (fs′ : List Field) (past′ : Past) (at′ : ℕ) (rest : List ℕ) → Place bytes fs′ past′ at′ rest → Also fs′ past′ → Agrees k fs′ past′ at′ rest) where
+      same-step : {s t : Step} → Same s t → (behind (fileBy a k) past s ≡ behind (fileBy b k) past t) ⊎ Met Is bytes (behind (fileBy b k) past t)
+      unfolding behind
+      same-step (on p q) = further _ _ _ _ p q
+      same-step off = inl refl
+
+      same-tag : (bs : List ℕ) → Place bytes fs past at bs → headBy a (begun past) fs bs ≡ headBy b (begun past) fs bs → Agrees (suc k) fs past at bs
+      same-tag bs p e = rw (by-step a k fs past at bs, by-step b k fs past at bs) (unfold stepBy in rw e (same-step (same-head fs past at q (stands b (begun past) fs bs) p)))
+
+      met : (t : ℕ) (rest : List ℕ) → Place bytes fs past at (t ∷ rest) → (b .come (begun past) fs t ≡ false) × (cardWhole fs ≡ true) × Is (begun past) fs t →
+          Met Is bytes (fileBy b (suc k) fs past at (t ∷ rest))
+      unfolding stepBy headBy byHeadBy behind
+      met t rest p n = rw (by-step b k fs past at (t ∷ rest), n .0) (record {
+        there = record { fs = fs; es = p .es; tag = t; rest = rest; card = p .right; whole = n .1; entries = p .entries; is = rw (← p .came) (n .2); split = p .split };
+        verdict = ap (λ (n : ℕ). refused 2 0 n 0) (p .offset);
+      })
+
+      onward : (bs : List ℕ) → Place bytes fs past at bs → Agrees (suc k) fs past at bs
+      onward [] p = same-tag [] p (unfold headBy in refl)
+      onward (t ∷ rest) p = ⊎-elim
+          (λ (e : a .come (begun past) fs t ≡ b .come (begun past) fs t). same-tag (t ∷ rest) p (unfold headBy in rw e))
+          (λ (n : (b .come (begun past) fs t ≡ false) × (cardWhole fs ≡ true) × Is (begun past) fs t). inr (met t rest p n))
+          (alike fs past (p .right) q .tag t)
+
+    walk : (k : ℕ) (fs : List Field) (past : Past) (at : ℕ) (bs : List ℕ) → Place bytes fs past at bs → Also fs past → Agrees k fs past at bs
+    walk zero fs past at bs p q = unfold fileBy in inl refl
+    walk (suc k) fs past at bs p q = onward k fs past at q (λ fs′ past′ at′ rest. walk k fs′ past′ at′ rest) bs p
+
+    -- so of every file they say the same, or the older one met a tag that it does not know
+    pub agree : Also [] [] → (judgedBy a bytes ≡ judgedBy b bytes) ⊎ Met Is bytes (judgedBy b bytes)
+    unfolding judgedBy
+    agree q = walk (suc (length bytes)) [] [] 0 bytes place-start q
+
+-- such a theorem behind another: what was said at first is said now, or one of the two exceptions holds of it
+pub behind-it : {now then first : Judged} {P : Type 0} (Q : Judged → Type 0) → (then ≡ first) ⊎ P → (now ≡ then) ⊎ Q then → (now ≡ first) ⊎ (P ⊎ Q first)
+behind-it Q (inr p) q = inr (inl p)
+behind-it Q (inl e) (inl q) = inl (q ∙ e)
+behind-it Q (inl e) (inr q) = inr (inr (subst Q e q))
 
 -- ---- what every entry that is taken keeps, the entries taken of a file have
-module _ (j : Judge) (P : Past → Type 0) (next : (card : Card) (past : Past) (e : Entry) → P past → P (j .next card past e)) where
+module _ (j : Judge) (P : Past → Type 0) (next : (card : Card) (past : Past) (e : Entry) → P past → P (j .taken card past e ∷ past)) where
   abbrev Has : Step → Type 0
   Has (goesOn fs past at rest) = P past
   Has (ends v) = Unit {0}
@@ -337,7 +457,7 @@ module _ (j : Judge) (P : Past → Type 0) (next : (card : Card) (past : Past) (
     has-step cut = tt
     has-step badTag = tt
     has-step badLength = tt
-    has-step (whole f rest) = go (eqb (f .tag) 32) (eqb (f .tag) 33)
+    has-step (whole f rest) = go (ofEntry (f .tag)) (eqb (f .tag) 33)
       where
         go : (x y : Bool) → Has (pick j fs past at f rest x y)
         go true y = unfold entryBy in unless-refused _ _ (next (cardOf fs) past (entryOf f) p)

@@ -1,10 +1,10 @@
 -- The refresh account (document 01, "The refresh account"): the ledger, cycle by cycle, as a signed number, and rules 19 and 20. It runs over counted
 -- cycles, which have numbers from 0 on; a book says which number a cycle of the trace has.
-use Prim.Native.Nat.{ℕ, zero, suc, _+_, _*_, _-_, _/_, _%_}
+use Prim.Native.Nat.{ℕ, zero, suc, _+_, _*_, _-_, _/_, _%_, min, max}
 use mathlib.Core.Bool.{Bool, false, cond}
 use mathlib.Core.List.{List, [], _∷_, map}
 use mathlib.Core.Option.{Option, none, some}
-use lib.Dec.{leb, eqb}
+use lib.Dec.{leb, ltb, eqb}
 use lib.IntN.{ℤ, pos, sucℤ, predℤ, negℤ}
 use lib.Signed.{ltZ, leZ}
 use Rattle.rules.specs.Lists.{isOneOf}
@@ -57,6 +57,19 @@ nextAfter b n = b .next + fallen b n * b .span
 -- one beat throughout, and the gap counts from the last counted refresh
 abbrev pub steady : Beat → Schedule
 steady b = record { due = onBeat b; span = λ n. b .span; since = λ last n. last }
+
+-- ---- another interval from number n on (document 02, Eleven)
+-- n is due by the old beat; then the next due is the earlier of the old next one and one new interval after n
+unfoldable pub respaced : Beat → (n I : ℕ) → Beat
+respaced b n I = record { next = min (nextAfter b n) (n + I); span = I }
+
+-- the dues after n are those of the new beat b; from n on its interval is in force, and the gap counts from n at the earliest
+unfoldable pub replaced : Schedule → (n : ℕ) → Beat → Schedule
+replaced s n b = record {
+  due = λ m. cond (leb m n) (s .due m) (onBeat b m);
+  span = λ m. cond (ltb m n) (s .span m) (b .span);
+  since = λ last m. cond (ltb m n) (s .since last m) (max last n);
+}
 
 -- a counted refresh takes 1, not below minus the credit
 unfoldable pub takeOne : ℕ → ℤ → ℤ

@@ -1,15 +1,17 @@
--- The bench card and its starred cases (document 01, "Bench card and its cases"), as files, and a few more that the starred ones do not show.
+-- The bench card and its starred cases (document 01, "Bench card and its cases"), as files, and a few more that the starred ones do not show: those of low
+-- clock-enable, of two parts and of temperature (document 02, One, Nine and Eleven) among them.
 use Prim.Native.Nat.{ℕ, suc, _-_}
 use mathlib.Core.Path.{_≡_}
 use mathlib.Core.Bool.{Bool, true, false}
 use mathlib.Core.List.{List, [], _∷_, _++_}
+use lib.Dec.{ltb}
 use lib.IntN.{ℤ, pos, negsuc}
 use lib.ListN.{length, take}
 use Rattle.rules.specs.Card.{Timing, Card}
 use Rattle.rules.specs.Commands.{Command, nop, mrw, mrr, refpb, refab, act, rd, wr, pre, prea}
 use Rattle.rules.specs.Pins.{good, decode, enabled, encode, encodePair}
 use Rattle.rules.specs.Levels.{plain, readPair}
-use Rattle.rules.specs.Entries.{Entry, entry}
+use Rattle.rules.specs.Entries.{Body, pins, mr4, Entry, entry, sensing}
 use Rattle.rules.specs.Lists.{when}
 use Rattle.rules.specs.Ranges.{timings, sleepTimings}
 use Rattle.rules.specs.Writer.{bigEndian, fieldBytes, entryBytes}
@@ -23,13 +25,14 @@ unfoldable pub onlyIf : Bool → Timing → Timing
 onlyIf true x = x
 onlyIf false x = timing 0 0
 
--- with another period and starting MR2, with tags 19 to 22 if it sleeps, and with tag 25 and this gap if it is of two parts
-unfoldable pub benchWith : (period mr2 : ℕ) → (sleeps paired : Bool) → (gap : ℕ) → Card
-benchWith p v s d g = record {
+-- with another period, starting MR2 and tREFI, with tags 19 to 22 if it sleeps, with tag 25 and this gap if it is of two parts, and with tag 26 unless
+-- that is 0
+unfoldable pub benchWith : (period mr2 trefi : ℕ) → (sleeps paired : Bool) → (gap raise : ℕ) → Card
+benchWith p v i s d g r = record {
   period = p;
   mr2 = v;
   groups = 8192;
-  trefi = 3_900_000;
+  trefi = i;
   trcd = timing 18000 3;
   trppb = timing 18000 3;
   trpab = timing 21000 3;
@@ -51,21 +54,33 @@ benchWith p v s d g = record {
   txsr = onlyIf s (timing 140000 2);
   paired = d;
   gap = g;
+  raise = r;
 }
 
 unfoldable pub benchAt : (period mr2 : ℕ) → Card
-benchAt p v = benchWith p v false false 0
+benchAt p v = benchWith p v 3_900_000 false false 0 0
 
 unfoldable pub bench : Card
 bench = benchAt 1250 0x1a
 
 -- a part that sleeps: tCKE is 6 cycles, tXP 8, tCKESR 12, tXSR 112
 unfoldable pub sleeper : Card
-sleeper = benchWith 1250 0x1a true false 0
+sleeper = benchWith 1250 0x1a 3_900_000 true false 0 0
 
 -- two parts, with this gap
 unfoldable pub pair : ℕ → Card
-pair g = benchWith 1250 0x1a false true g
+pair g = benchWith 1250 0x1a 3_900_000 false true g 0
+
+-- one that says what code 110 adds, of one part and of two
+unfoldable pub heater : Card
+heater = benchWith 1250 0x1a 3_900_000 false false 0 1875
+
+unfoldable pub hotPair : Card
+hotPair = benchWith 1250 0x1a 3_900_000 false true 2 1875
+
+-- and one whose tREFI is one cycle
+unfoldable pub tight : Card
+tight = benchWith 100_000 0x1a 100_000 false false 0 0
 
 -- ---- files
 unfoldable pub timingFields : ℕ → List Timing → List ℕ
@@ -80,11 +95,16 @@ cardFile card =
     fieldBytes 4 (bigEndian 4 (card .trefi)) ++
     timingFields 5 (timings card) ++
     when (card .sleeps) (timingFields 19 (sleepTimings card)) ++
-    when (card .paired) (fieldBytes 25 (bigEndian 1 (card .gap)))
+    when (card .paired) (fieldBytes 25 (bigEndian 1 (card .gap))) ++
+    when (ltb 0 (card .raise)) (fieldBytes 26 (bigEndian 4 (card .raise)))
+
+unfoldable pub bodyBytes : ℕ → Body → List ℕ
+bodyBytes t (pins p) = entryBytes t p
+bodyBytes t (mr4 v) = fieldBytes 34 (bigEndian 4 t ++ bigEndian 1 v)
 
 unfoldable pub entriesFile : List Entry → List ℕ
 entriesFile [] = []
-entriesFile (e ∷ es) = entryBytes (e .stamp) (e .pins) ++ entriesFile es
+entriesFile (e ∷ es) = bodyBytes (e .stamp) (e .body) ++ entriesFile es
 
 unfoldable pub endFile : ℕ → List ℕ
 endFile end = fieldBytes 33 (bigEndian 4 end)
@@ -323,4 +343,118 @@ paired =
     prints (file (pair 2) (nop at₀ 0 ∷ entry 1 0x30_0007 ∷ act 5 0 at₁ 2 ∷ refpb at₀ 3 ∷ refpb at₀ 60 ∷ refpb at₁ 61 ∷ []) 61) (
     48 ∷ 32 ∷ 78 ∷ 79 ∷ 80 ∷ 32 ∷ 45 ∷ 32 ∷ 45 ∷ 10 ∷ 49 ∷ 32 ∷ 78 ∷ 79 ∷ 80 ∷ 32 ∷ 45 ∷ 32 ∷ 49 ∷ 10 ∷ 50 ∷ 32 ∷ 65 ∷ 67 ∷ 84 ∷ 32 ∷ 53 ∷ 32 ∷ 49 ∷ 10 ∷ 51 ∷ 32 ∷ 82 ∷ 69 ∷ 70 ∷ 80 ∷ 66 ∷ 32 ∷ 48 ∷ 32 ∷ 48 ∷ 10 ∷ 54 ∷ 48 ∷ 32 ∷ 82 ∷ 69 ∷ 70 ∷ 80 ∷ 66 ∷ 32 ∷ 49 ∷ 32 ∷ 48 ∷ 10 ∷ 54 ∷ 49 ∷ 32 ∷ 82 ∷ 69 ∷ 70 ∷ 80 ∷ 66 ∷ 32 ∷ 48 ∷ 32 ∷ 49 ∷ 10 ∷
     97 ∷ 99 ∷ 99 ∷ 101 ∷ 112 ∷ 116 ∷ 101 ∷ 100 ∷ 32 ∷ 52 ∷ 32 ∷ 48 ∷ 32 ∷ 48 ∷ 32 ∷ 48 ∷ 10 ∷ []
+    ) ∷ []
+
+-- ---- temperature (document 02, Eleven)
+infix 90 _sets_
+unfoldable pub _sets_ : (mr4 stamp : ℕ) → Entry
+v sets t = sensing t v
+
+-- a field is 8 bytes; the interval is 12,480, 6,240, 3,120, 1,560, 780, 780 by code
+unfoldable pub warming : List Case
+warming =
+    -- each code at cycle 0, where the next due, 3,120, stays unless one new interval comes before it; and the ninth due after that
+    judges (file bench (0b001 sets 0 ∷ []) 102_959) (accepts 0 0 (pos 8)) ∷
+    judges (file bench (0b001 sets 0 ∷ []) 102_960) (refused 11 19 143 102_960) ∷
+    judges (file bench (0b010 sets 0 ∷ []) 53_039) (accepts 0 0 (pos 8)) ∷
+    judges (file bench (0b010 sets 0 ∷ []) 53_040) (refused 11 19 143 53_040) ∷
+    judges (file bench (0b011 sets 0 ∷ []) 28_079) (accepts 0 0 (pos 8)) ∷
+    judges (file bench (0b011 sets 0 ∷ []) 28_080) (refused 11 19 143 28_080) ∷
+    judges (file bench (0b100 sets 0 ∷ []) 14_039) (accepts 0 0 (pos 8)) ∷
+    judges (file bench (0b100 sets 0 ∷ []) 14_040) (refused 11 19 143 14_040) ∷
+    judges (file bench (0b101 sets 0 ∷ []) 7_019) (accepts 0 0 (pos 8)) ∷
+    judges (file bench (0b101 sets 0 ∷ []) 7_020) (refused 11 19 143 7_020) ∷
+    judges (file bench (0b110 sets 0 ∷ []) 7_020) (refused 11 19 143 7_020) ∷
+    -- OP7-3 are ignored; 000 and 111 are 26
+    judges (file bench (0xfc sets 0 ∷ []) 14_040) (refused 11 19 143 14_040) ∷
+    judges (file bench (0b000 sets 0 ∷ []) 20) (refused 26 0 135 0) ∷
+    judges (file bench (0xff sets 0 ∷ []) 20) (refused 26 0 135 0) ∷
+    -- before rounding down: 15,600,000 over 1,071 is 14,565; and never below one cycle
+    judges (file (benchAt 1071 0x1c) (0b001 sets 0 ∷ []) 18_205) (accepts 0 0 (pos 1)) ∷
+    judges (file (benchAt 1071 0x1c) (0b001 sets 0 ∷ []) 18_206) (accepts 0 0 (pos 2)) ∷
+    judges (file tight (0b110 sets 0 ∷ []) 8) (accepts 0 0 (pos 8)) ∷
+    judges (file tight (0b110 sets 0 ∷ []) 9) (refused 11 19 143 9) ∷
+    -- its own cycle falls due by the old interval
+    judges (file bench (0b100 sets 3_120 ∷ []) 4_679) (accepts 0 0 (pos 1)) ∷
+    judges (file bench (0b100 sets 3_120 ∷ []) 4_680) (accepts 0 0 (pos 2)) ∷
+    -- the old next due is kept where it is the earlier, and then the new interval runs from it
+    judges (file bench (0b100 sets 3_000 ∷ []) 3_120) (accepts 0 0 (pos 1)) ∷
+    judges (file bench (0b100 sets 3_000 ∷ []) 4_679) (accepts 0 0 (pos 1)) ∷
+    judges (file bench (0b100 sets 3_000 ∷ []) 4_680) (accepts 0 0 (pos 2)) ∷
+    judges (file bench (0b100 sets 100 ∷ []) 1_659) (accepts 0 0 (pos 0)) ∷
+    judges (file bench (0b100 sets 100 ∷ []) 1_660) (accepts 0 0 (pos 1)) ∷
+    -- lengthening moves no due
+    judges (file bench (0b001 sets 1_000 ∷ []) 3_119) (accepts 0 0 (pos 0)) ∷
+    judges (file bench (0b001 sets 1_000 ∷ []) 3_120) (accepts 0 0 (pos 1)) ∷
+    judges (file bench (0b001 sets 1_000 ∷ []) 15_599) (accepts 0 0 (pos 1)) ∷
+    judges (file bench (0b001 sets 1_000 ∷ []) 15_600) (accepts 0 0 (pos 2)) ∷
+    -- two fields: 1,560 after the first is kept by the second
+    judges (file bench (0b100 sets 0 ∷ 0b001 sets 1_000 ∷ []) 1_560) (accepts 0 0 (pos 1)) ∷
+    judges (file bench (0b100 sets 0 ∷ 0b001 sets 1_000 ∷ []) 14_039) (accepts 0 0 (pos 1)) ∷
+    judges (file bench (0b100 sets 0 ∷ 0b001 sets 1_000 ∷ []) 14_040) (accepts 0 0 (pos 2)) ∷
+    -- rule 20: the gap counts from the field, whatever its code, and nine new intervals are the most
+    judges (file bench (eightRefreshes ++ (0b011 sets 20_000 ∷ [])) 48_080) (accepts 8 8 (pos 7)) ∷
+    judges (file bench (eightRefreshes ++ (0b011 sets 20_000 ∷ [])) 48_081) (refused 11 20 223 48_081) ∷
+    judges (file bench (eightRefreshes ++ (0b101 sets 1_000 ∷ [])) 8_020) (accepts 8 8 (pos 1)) ∷
+    judges (file bench (eightRefreshes ++ (0b101 sets 1_000 ∷ [])) 8_021) (refused 11 20 223 8_021) ∷
+    judges (file bench (0b101 sets 0 ∷ refab at 100 ∷ refab at 204 ∷ refab at 308 ∷ []) 7_328) (accepts 3 3 (pos 6)) ∷
+    judges (file bench (0b101 sets 0 ∷ refab at 100 ∷ refab at 204 ∷ refab at 308 ∷ []) 7_329) (refused 11 20 173 7_329) ∷
+    -- a field at the failing cycle saves the trace from rule 20, and not from rule 19; the cycle after it is too late
+    judges (file bench (eightRefreshes ++ (0b011 sets 28_809 ∷ [])) 28_809) (accepts 8 8 (pos 1)) ∷
+    judges (file bench (eightRefreshes ++ (0b011 sets 28_810 ∷ [])) 28_810) (refused 11 20 215 28_809) ∷
+    judges (file bench (0b011 sets 28_080 ∷ []) 28_080) (refused 11 19 135 28_080) ∷
+    -- 5; 11 below the stamp before 26, and 26 before 11 at it
+    judges (file bench (act 0 0 at 5 ∷ 0b000 sets 5 ∷ []) 20) (refused 5 0 145 0) ∷
+    judges (file bench (0b011 sets 5 ∷ act 0 0 at 5 ∷ []) 20) (refused 5 0 143 0) ∷
+    judges (file bench (0b011 sets 5 ∷ 0b011 sets 5 ∷ []) 20) (refused 5 0 143 0) ∷
+    judges (file bench (0b011 sets 5 ∷ []) 4) (refused 5 0 143 0) ∷
+    judges (file bench (0b011 sets 5 ∷ []) 5) (accepts 0 0 (pos 0)) ∷
+    judges (file bench (0b000 sets 28_081 ∷ []) 28_081) (refused 11 19 135 28_080) ∷
+    judges (file bench (0b000 sets 28_080 ∷ []) 28_080) (refused 26 0 135 0) ∷
+    -- code 110 at the later entry: tRCD 16, tRRD 10, tRPab 19, tRC 51
+    judges (file heater (act 0 0 at 0 ∷ 0b110 sets 10 ∷ rd 0 0 false at 15 ∷ []) 20) (refused 10 7 160 16) ∷
+    judges (file heater (act 0 0 at 0 ∷ 0b110 sets 10 ∷ rd 0 0 false at 16 ∷ []) 20) (accepts 2 0 (pos 0)) ∷
+    judges (file heater (act 0 0 at 0 ∷ 0b101 sets 10 ∷ rd 0 0 false at 15 ∷ []) 20) (accepts 2 0 (pos 0)) ∷
+    judges (file heater (0b110 sets 0 ∷ act 0 0 at 1 ∷ 0b011 sets 10 ∷ rd 0 0 false at 16 ∷ []) 20) (accepts 2 0 (pos 0)) ∷
+    judges (file heater (0b110 sets 0 ∷ act 0 0 at 1 ∷ act 1 0 at 10 ∷ []) 20) (refused 10 10 160 11) ∷
+    judges (file heater (0b110 sets 0 ∷ act 0 0 at 1 ∷ act 1 0 at 11 ∷ []) 20) (accepts 2 0 (pos 0)) ∷
+    judges (file heater (prea at 0 ∷ 0b110 sets 1 ∷ act 0 0 at 18 ∷ []) 20) (refused 10 6 160 19) ∷
+    judges (file heater (act 0 0 at 0 ∷ 0b110 sets 1 ∷ rd 0 0 true at 16 ∷ act 0 0 at 50 ∷ []) 60) (refused 10 9 170 51) ∷
+    judges (file heater (act 0 0 at 0 ∷ 0b110 sets 1 ∷ rd 0 0 true at 16 ∷ act 0 0 at 51 ∷ []) 60) (accepts 3 0 (pos 0)) ∷
+    -- without tag 26 it adds nothing
+    judges (file bench (act 0 0 at 0 ∷ 0b110 sets 10 ∷ rd 0 0 false at 15 ∷ []) 20) (accepts 2 0 (pos 0)) ∷
+    -- asleep in self-refresh, in counted cycles: its number is that of the entry, and the exit at 100,000 has it too
+    judges (file sleeper (refab low 0 ∷ 0b100 sets 50_000 ∷ nop at 100_000 ∷ []) 101_559) (accepts 0 0 (pos 0)) ∷
+    judges (file sleeper (refab low 0 ∷ 0b100 sets 50_000 ∷ nop at 100_000 ∷ []) 101_560) (accepts 0 0 (pos 1)) ∷
+    judges (file sleeper (refab low 0 ∷ 0b100 sets 50_000 ∷ nop at 100_000 ∷ []) 114_039) (accepts 0 0 (pos 8)) ∷
+    judges (file sleeper (refab low 0 ∷ 0b100 sets 50_000 ∷ nop at 100_000 ∷ []) 114_040) (refused 11 19 195 114_040) ∷
+    judges (file sleeper (eightRefreshes ++ (refab low 1000 ∷ 0b011 sets 50_000 ∷ nop at 101_000 ∷ [])) 129_080) (accepts 8 8 (pos 1)) ∷
+    judges (file sleeper (eightRefreshes ++ (refab low 1000 ∷ 0b011 sets 50_000 ∷ nop at 101_000 ∷ [])) 129_081) (refused 11 20 275 129_081) ∷
+    -- in power-down; and 16 after deep power-down, before 26
+    judges (file sleeper (nop low 0 ∷ 0b100 sets 100 ∷ []) 1_660) (accepts 0 0 (pos 1)) ∷
+    judges (file sleeper (prea low 0 ∷ 0b000 sets 10 ∷ []) 20) (refused 16 0 177 0) ∷
+    -- the form: tag 26 at most once, in range, before the first entry and behind 19 to 22; tag 34 behind a whole card
+    judges (cardFile bench ++ fieldBytes 26 (bigEndian 4 1_000_001) ++ endFile 20) (refused 4 0 135 0) ∷
+    judges (cardFile bench ++ fieldBytes 26 (bigEndian 4 1_000_000) ++ endFile 20) (accepts 0 0 (pos 0)) ∷
+    judges (cardFile heater ++ fieldBytes 26 (bigEndian 4 0) ++ endFile 20) (refused 2 0 142 0) ∷
+    judges (cardFile heater ++ timingFields 19 (sleepTimings sleeper) ++ endFile 20) (refused 2 0 142 0) ∷
+    judges (cardFile bench ++ entriesFile (0b011 sets 0 ∷ []) ++ fieldBytes 26 (bigEndian 4 0) ++ endFile 20) (refused 2 0 143 0) ∷
+    judges (take 127 (cardFile bench) ++ entriesFile (0b011 sets 0 ∷ []) ++ endFile 20) (refused 2 0 127 0) ∷
+    judges (cardFile bench ++ fieldBytes 34 (bigEndian 4 0) ++ endFile 20) (refused 3 0 135 0) ∷
+    -- two parts: the field is of both, and names none; each ledger's gap counts from it, and both go by one schedule; the first entry stands at offset 139
+    judges (file (pair 2) (0b100 sets 0 ∷ []) 14_039) (accepted 0 0 (pos 8 ∷ pos 8 ∷ [])) ∷
+    judges (file (pair 2) (0b100 sets 0 ∷ []) 14_040) (refused 11 19 147 14_040) ∷
+    judges (file (pair 2) (refab at₁ 100 ∷ 0b100 sets 1_000 ∷ []) 14_999) (accepted 1 1 (pos 8 ∷ pos 7 ∷ [])) ∷
+    judges (file (pair 2) (refab at₁ 100 ∷ 0b100 sets 1_000 ∷ []) 15_040) (refused 11 19 157 15_040) ∷
+    judges (file (pair 2) (refab at₀ 0 ∷ refab at₀ 3_119 ∷ refab at₁ 3_223 ∷ 0b101 sets 5_000 ∷ refab at₁ 5_001 ∷ []) 12_020) (accepted 4 4 (pos 8 ∷ pos 8 ∷ [])) ∷
+    judges (file (pair 2) (refab at₀ 0 ∷ refab at₀ 3_119 ∷ refab at₁ 3_223 ∷ 0b101 sets 5_000 ∷ refab at₁ 5_001 ∷ []) 12_021) (refused 11 20 187 12_021) ∷
+    -- the hot delays of both parts
+    judges (file hotPair (act 0 0 at₀ 0 ∷ act 0 0 at₁ 1 ∷ 0b110 sets 10 ∷ rd 0 0 false at₁ 16 ∷ []) 20) (refused 10 7 174 17) ∷
+    judges (file hotPair (act 0 0 at₀ 0 ∷ act 0 0 at₁ 1 ∷ 0b110 sets 10 ∷ rd 0 0 false at₀ 15 ∷ []) 20) (refused 10 7 174 16) ∷
+    judges (file hotPair (act 0 0 at₀ 0 ∷ act 0 0 at₁ 1 ∷ 0b110 sets 10 ∷ rd 0 0 false at₀ 16 ∷ []) 20) (accepted 3 0 (pos 0 ∷ pos 0 ∷ [])) ∷
+    judges (cardFile hotPair ++ fieldBytes 25 (2 ∷ []) ++ endFile 20) (refused 2 0 146 0) ∷
+    -- it is neither counted nor printed
+    prints (file bench (nop at 0 ∷ 0b011 sets 5 ∷ []) 6) (
+    48 ∷ 32 ∷ 78 ∷ 79 ∷ 80 ∷ 32 ∷ 45 ∷ 10 ∷
+    97 ∷ 99 ∷ 99 ∷ 101 ∷ 112 ∷ 116 ∷ 101 ∷ 100 ∷ 32 ∷ 48 ∷ 32 ∷ 48 ∷ 32 ∷ 48 ∷ 10 ∷ []
     ) ∷ []

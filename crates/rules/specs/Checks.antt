@@ -5,16 +5,17 @@ use mathlib.Core.List.{List, [], _∷_}
 use mathlib.Core.Option.{Option, none, some}
 use lib.Dec.{leb, ltb}
 use Rattle.rules.specs.Card.{Card}
-use Rattle.rules.specs.Units.{Delays, delaysOf}
+use Rattle.rules.specs.Units.{Delays}
+use Rattle.rules.specs.Heat.{mr4Good, delaysAt}
 use Rattle.rules.specs.Commands.{Command, carries, is, MRW}
 use Rattle.rules.specs.Pins.{good, wrongBits, reserved}
 use Rattle.rules.specs.Registers.{mayWrite}
-use Rattle.rules.specs.Levels.{Read, plain, moved, asleep, barred, clash}
-use Rattle.rules.specs.Past.{Past}
+use Rattle.rules.specs.Levels.{Read, plain, moved, asleep, barred, clash, sensed}
+use Rattle.rules.specs.Past.{Past, mr4At}
 use Rattle.rules.specs.States.{stateGood}
 use Rattle.rules.specs.Folds.{firstOf, firstBroken}
 use Rattle.rules.specs.Delays.{delayRules}
-use Rattle.rules.specs.Entries.{Entry, View, viewFor, readFor, moveOf, judgedAs, pastWith}
+use Rattle.rules.specs.Entries.{Entry, View, ownFor, viewFor, readFor, moveOf, judgedAs, pastWith}
 use Rattle.rules.specs.Account.{lpddr3, failingIn, firstIn}
 use Rattle.rules.specs.Clock.{booksOf}
 
@@ -47,6 +48,7 @@ isWrong (moved m) = false
 isWrong asleep = false
 isWrong barred = false
 isWrong clash = false
+isWrong (sensed v) = false
 
 unfoldable pub isReserved : Read → Bool
 isReserved (plain (good c)) = false
@@ -56,6 +58,7 @@ isReserved (moved m) = false
 isReserved asleep = false
 isReserved barred = false
 isReserved clash = false
+isReserved (sensed v) = false
 
 unfoldable pub isBarred : Read → Bool
 isBarred (plain d) = false
@@ -63,6 +66,7 @@ isBarred (moved m) = false
 isBarred asleep = false
 isBarred barred = true
 isBarred clash = false
+isBarred (sensed v) = false
 
 unfoldable pub isClash : Read → Bool
 isClash (plain d) = false
@@ -70,12 +74,22 @@ isClash (moved m) = false
 isClash asleep = false
 isClash barred = false
 isClash clash = true
+isClash (sensed v) = false
+
+-- a value of MR4 whose code is taken
+unfoldable pub codeGood : Read → Bool
+codeGood (plain d) = true
+codeGood (moved m) = true
+codeGood asleep = true
+codeGood barred = true
+codeGood clash = true
+codeGood (sensed v) = mr4Good v
 
 unfoldable pub valueGood : Card → Command → Bool
 valueGood card c = cond (is MRW c) (mayWrite (card .period) (carries c .ma) (carries c .op)) true
 
 -- The checks of an entry with stamp t: whether the stamp rises; 19 and 20 through the cycle before it; the pins, both CS_n, the bank state, what is
--- permitted, the value, the delay rules; 19 and 20 at the stamp.
+-- permitted, the value of MRW and of MR4, the delay rules; 19 and 20 at the stamp.
 unfoldable pub checks : Card → Delays → View → (rises : Bool) → (before at : Option (ℕ × ℕ)) → Read → (t : ℕ) → List (Option Refusal)
 checks card delays v rises before at r t =
     let c = judgedAs r in
@@ -87,10 +101,11 @@ checks card delays v rises before at r t =
     unless (stateGood (v .open?) (v .counter) c) 8 ∷
     unless (not (isBarred r)) 16 ∷
     unless (valueGood card c) 9 ∷
+    unless (codeGood r) 26 ∷
     named 10 (firstBroken (v .look) (delayRules delays c (moveOf r) (v .counter)) t) ∷
     named 11 at ∷ []
 
--- ---- over the list, of both parts' entries: stamps rise over both together, and 11 looks at both ledgers
+-- ---- over the list, of both parts' entries: stamps rise over both together, 11 looks at both ledgers, and delays go by the temperature at the later entry
 -- t is above the last stamp, and not below it; where there is no entry yet, any is
 unfoldable pub above : Past → ℕ → Bool
 above [] t = true
@@ -102,7 +117,7 @@ notBelow (e ∷ p) t = leb (e .stamp) t
 
 unfoldable pub entryChecks : Card → Past → Entry → List (Option Refusal)
 entryChecks card past e =
-    checks card (delaysOf card) (viewFor card past e) (above past (e .stamp))
+    checks card (delaysAt card (mr4At (ownFor card past e))) (viewFor card past e) (above past (e .stamp))
     (firstIn lpddr3 (booksOf card past) (e .stamp))
     (failingIn lpddr3 (booksOf card (pastWith card past e)) (e .stamp))
     (readFor card past e) (e .stamp)

@@ -1,14 +1,16 @@
--- Which cycles are counted (document 02, One), and the account of a part's entries: over the counted cycles, by their numbers.
+-- Which cycles are counted (document 02, One), when refreshes are due (Eleven), and the account of a part's entries: over the counted cycles, by their
+-- numbers.
 use Prim.Native.Nat.{ℕ, zero, suc, _+_}
 use mathlib.Core.Bool.{Bool, cond, not}
 use mathlib.Core.List.{List, [], _∷_, map}
+use mathlib.Core.Option.{Option, none, some}
 use lib.Dec.{ltb}
 use Rattle.rules.specs.Card.{Card}
-use Rattle.rules.specs.Units.{interval}
+use Rattle.rules.specs.Heat.{startMR4, intervalAt}
 use Rattle.rules.specs.Levels.{Level, awake, stopped}
 use Rattle.rules.specs.Whose.{parts}
-use Rattle.rules.specs.Past.{Past, ofPart, levelAt, countedStamps}
-use Rattle.rules.specs.Account.{Schedule, Beat, every, steady, Book}
+use Rattle.rules.specs.Past.{Past, ofPart, mr4At, levelAt, countedStamps}
+use Rattle.rules.specs.Account.{Schedule, Beat, every, steady, respaced, replaced, Book}
 
 -- the level before cycle t: after the entries below it
 unfoldable pub levelBelow : ℕ → Past → Level
@@ -28,12 +30,31 @@ countedFrom past a (suc n) = countedFrom past a n + cond (counts past (a + n)) 1
 unfoldable pub clock : Past → ℕ → ℕ
 clock past t = countedFrom past 1 t
 
--- the dues, by number: the positive multiples of I
-unfoldable pub beatOf : Card → Beat
-beatOf card = every (interval card)
+-- ---- the dues, by number: the positive multiples of I, until a temperature field sets another interval
+-- the beat after a temperature field at number n, and after any other entry
+unfoldable pub beatBy : Card → (n : ℕ) → Option ℕ → Beat → Beat
+beatBy card n none b = b
+beatBy card n (some v) b = respaced b n (intervalAt card v)
+
+unfoldable pub beatAt : Card → Past → Beat
+beatAt card [] = every (intervalAt card startMR4)
+beatAt card (e ∷ p) = beatBy card (clock p (e .stamp)) (e .mr4) (beatAt card p)
+
+unfoldable pub scheduleBy : (n : ℕ) → Option ℕ → Beat → Schedule → Schedule
+scheduleBy n none b s = s
+scheduleBy n (some v) b s = replaced s n b
 
 unfoldable pub scheduleOf : Card → Past → Schedule
-scheduleOf card past = steady (beatOf card)
+scheduleOf card [] = steady (beatAt card [])
+scheduleOf card (e ∷ p) = scheduleBy (clock p (e .stamp)) (e .mr4) (beatAt card (e ∷ p)) (scheduleOf card p)
+
+-- the entries below cycle t, and the interval in force after them
+unfoldable pub pastBelow : ℕ → Past → Past
+pastBelow t [] = []
+pastBelow t (e ∷ p) = cond (ltb (e .stamp) t) (e ∷ p) (pastBelow t p)
+
+unfoldable pub intervalBelow : Card → ℕ → Past → ℕ
+intervalBelow card t past = intervalAt card (mr4At (pastBelow t past))
 
 unfoldable pub bookOf : Card → Past → Book
 bookOf card past = record { schedule = scheduleOf card past; clock = clock past; refreshes = map (clock past) (countedStamps past) }

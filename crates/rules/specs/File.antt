@@ -10,7 +10,7 @@ use Rattle.rules.specs.Past.{Past, commandCount}
 use Rattle.rules.specs.Entries.{pastWith}
 use Rattle.rules.specs.Checks.{Refusal, entryRefusal, endRefusal}
 use Rattle.rules.specs.Verdict.{refreshCount, ledgersAt}
-use Rattle.rules.specs.Form.{Field, sizeOf, Head, whole, cut, badTag, badLength, headOf, cardOf, fieldGood, entryOf, endOf}
+use Rattle.rules.specs.Form.{Field, sizeOf, ofEntry, Head, whole, cut, badTag, badLength, headOf, cardOf, fieldGood, entryOf, endOf}
 
 -- four numbers of a refusal, or entries other than NOP, counted refreshes and each part's ledger at E
 pub data FileVerdict : Type 0 where
@@ -51,7 +51,7 @@ byHead fs past at cut = ends (refused 1 0 at 0)
 byHead fs past at badTag = ends (refused 2 0 at 0)
 byHead fs past at badLength = ends (refused 3 0 at 0)
 byHead fs past at (whole f rest) =
-    cond (eqb (f .tag) 32) (entryStep fs past at f rest)
+    cond (ofEntry (f .tag)) (entryStep fs past at f rest)
     (cond (eqb (f .tag) 33) (endStep fs past at f rest) (cardStep fs past at f rest))
 
 -- an entry has come

@@ -7,8 +7,8 @@ use lib.Dec.{leb, ltb, eqb}
 use lib.ListN.{length, take, drop}
 use Rattle.rules.specs.Card.{Timing, Card}
 use Rattle.rules.specs.Registers.{mr2Good}
-use Rattle.rules.specs.Ranges.{periodGood, groupsGood, trefiGood, timingGood}
-use Rattle.rules.specs.Entries.{Entry, entry}
+use Rattle.rules.specs.Ranges.{periodGood, groupsGood, trefiGood, timingGood, raiseGood}
+use Rattle.rules.specs.Entries.{Body, pins, mr4, Entry}
 
 -- a field as it stands in the file: a tag byte, the two bytes of its length, the value
 pub record Field : Type 0 where
@@ -42,7 +42,7 @@ unfoldable pub _upTo_ : ℕ → ℕ → Group
 a upTo b = record { first = a; last = b }
 
 unfoldable pub groups : List Group
-groups = 1 upTo 18 ∷ 19 upTo 22 ∷ 25 upTo 25 ∷ []
+groups = 1 upTo 18 ∷ 19 upTo 22 ∷ 25 upTo 25 ∷ 26 upTo 26 ∷ []
 
 -- the tag of the newest field, 0 before the first
 unfoldable pub lastTag : List Field → ℕ
@@ -63,9 +63,13 @@ beginsGroup (g ∷ gs) t = eqb (g .first) t || beginsGroup gs t
 unfoldable pub cardWhole : List Field → Bool
 cardWhole fs = endsGroup groups (lastTag fs)
 
--- an entry (32) or the end (33)
+-- an entry (32), or the entry-like field of a temperature (34)
+unfoldable pub ofEntry : ℕ → Bool
+ofEntry tag = eqb tag 32 || eqb tag 34
+
+-- or the end (33)
 unfoldable pub ofTrace : ℕ → Bool
-ofTrace tag = eqb tag 32 || eqb tag 33
+ofTrace tag = ofEntry tag || eqb tag 33
 
 -- Behind a tag of the card, the next one; where the card could end, an entry or the end, or, before the first entry, the first tag of a later group
 unfoldable pub mayFollow : (entries : Bool) → (last tag : ℕ) → Bool
@@ -88,8 +92,8 @@ unfoldable pub lengths : List Listed
 lengths =
     1 of 4 ∷ 2 of 1 ∷ 3 of 2 ∷ 4 of 4 ∷
     5 of 5 ∷ 6 of 5 ∷ 7 of 5 ∷ 8 of 5 ∷ 9 of 5 ∷ 10 of 5 ∷ 11 of 5 ∷ 12 of 5 ∷ 13 of 5 ∷ 14 of 5 ∷ 15 of 5 ∷ 16 of 5 ∷ 17 of 5 ∷ 18 of 5 ∷
-    19 of 5 ∷ 20 of 5 ∷ 21 of 5 ∷ 22 of 5 ∷ 25 of 1 ∷
-    32 of 7 ∷ 33 of 4 ∷ []
+    19 of 5 ∷ 20 of 5 ∷ 21 of 5 ∷ 22 of 5 ∷ 25 of 1 ∷ 26 of 4 ∷
+    32 of 7 ∷ 33 of 4 ∷ 34 of 5 ∷ []
 
 unfoldable pub isListed : List Listed → (tag size : ℕ) → Bool
 isListed [] t l = false
@@ -166,6 +170,7 @@ cardOf fs = record {
   txsr = timingAt 22 fs;
   paired = has 25 fs;
   gap = numberAt 25 fs;
+  raise = numberAt 26 fs;
 }
 
 -- a gap is a byte, and comes in no card with tags 19 to 22
@@ -181,11 +186,15 @@ fieldGood fs f =
     (cond (eqb t 2) (mr2Good (numberAt 1 fs) x)
     (cond (eqb t 3) (groupsGood x)
     (cond (eqb t 4) (trefiGood (numberAt 1 fs) x)
-    (cond (eqb t 25) (gapGood fs x) (timingGood (timingOf (f .value)))))))
+    (cond (eqb t 25) (gapGood fs x)
+    (cond (eqb t 26) (raiseGood x) (timingGood (timingOf (f .value))))))))
 
--- an entry: stamp (4 bytes), pins (3); the end: E
+-- an entry: stamp (4 bytes), pins (3) or the value of MR4 (1); the end: E
+unfoldable pub bodyOf : (tag : ℕ) → ℕ → Body
+bodyOf tag x = cond (eqb tag 34) (mr4 x) (pins x)
+
 unfoldable pub entryOf : Field → Entry
-entryOf f = entry (number (take 4 (f .value))) (number (drop 4 (f .value)))
+entryOf f = record { stamp = number (take 4 (f .value)); body = bodyOf (f .tag) (number (drop 4 (f .value))) }
 
 unfoldable pub endOf : Field → ℕ
 endOf f = number (f .value)

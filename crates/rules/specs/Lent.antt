@@ -2,7 +2,7 @@
 -- (document 01, "The refresh account", "What comes back"). The rules are those of the list, asked at the record's own answers.
 use Prim.Native.Nat.{ℕ, suc, _+_, _-_, max}
 use mathlib.Core.Path.{_≡_}
-use mathlib.Core.Bool.{Bool, true, false, cond, not, _&&_}
+use mathlib.Core.Bool.{Bool, true, false, cond, _&&_}
 use mathlib.Core.List.{List, [], _∷_, map}
 use mathlib.Core.Option.{Option, none, some}
 use lib.Dec.{leb, ltb, eqb}
@@ -11,12 +11,12 @@ use lib.ListN.{take, getElem?}
 use lib.Signed.{leZ}
 use Rattle.rules.specs.Lists.{all, isOneOf}
 use Rattle.rules.specs.Card.{Card}
-use Rattle.rules.specs.Units.{delaysOf}
+use Rattle.rules.specs.Heat.{startMR4, intervalAt, delaysAt}
 use Rattle.rules.specs.Commands.{Command, banks}
 use Rattle.rules.specs.Registers.{mr2Good}
 use Rattle.rules.specs.Ranges.{cardGood}
-use Rattle.rules.specs.Whose.{Whose, isOf, other, parts}
-use Rattle.rules.specs.Past.{Past, ofPart, lastCycle, registerAfter, mr2At, levelAt, counterAfter, counterAt, openAfter, isOpen, isCounted}
+use Rattle.rules.specs.Whose.{isOf, other, parts}
+use Rattle.rules.specs.Past.{Past, ofPart, lastCycle, registerAfter, mr2At, mr4At, levelAt, counterAfter, counterAt, openAfter, isOpen, isCounted}
 use Rattle.rules.specs.Folds.{Found, firstOf}
 use Rattle.rules.specs.Delays.{
   Ask,
@@ -45,15 +45,16 @@ use Rattle.rules.specs.Delays.{
   Answers,
   lookBoth,
 }
-use Rattle.rules.specs.Account.{lpddr3, Beat, steady, takeOne, failing, ledgerOn, sinceOn, firstOn, earliest, idle, firstIdle}
-use Rattle.rules.specs.Clock.{clock, beatOf, bookOf}
-use Rattle.rules.specs.Levels.{Level, awake, stopped, Move, levelAfter, Read}
-use Rattle.rules.specs.Entries.{Entry, View, read, whoseOf, partIn, recordedAs, moveOf, takenFor}
+use Rattle.rules.specs.Account.{lpddr3, Beat, steady, respaced, takeOne, failing, ledgerOn, sinceOn, firstOn, earliest, idle, firstIdle}
+use Rattle.rules.specs.Clock.{clock, beatAt, bookOf}
+use Rattle.rules.specs.Levels.{Level, awake, stopped, Move, stays, levelAfter, Read}
+use Rattle.rules.specs.Entries.{Entry, View, read, whoseOf, partIn, recordedAs, moveOf, mr4Of, takenFor}
 use Rattle.rules.specs.Checks.{Refusal, unless, named, checks, entryRefusal}
 
 -- ---- what it holds
 -- the ledger stands as after cycle `at`; a fresh one at cycle 0, where nothing falls due. It knows how many cycles up to there were not counted, and the
--- level, by which those after it are counted or not. `since` is the number, among the counted cycles, since which the gap counts
+-- level, by which those after it are counted or not. `since` is the number, among the counted cycles, since which the gap counts: that of the last counted
+-- refresh, or of a later temperature field
 pub record Ledger : Type 0 where
   pub at : ℕ
   pub owing : ℤ
@@ -64,6 +65,18 @@ pub record Ledger : Type 0 where
 -- the number of the cycle where it stands; it can have skipped no more cycles than there were
 unfoldable pub numberOf : Ledger → ℕ
 numberOf g = g .at - g .skipped
+
+-- when refreshes are due: `next` is the next due as the latest temperature field left it, or the card, a number among the counted cycles. One is due there,
+-- none before, and one every interval after it. `mr4` is the temperature, by which the interval goes
+pub record Pace : Type 0 where
+  pub next : ℕ
+  pub mr4 : ℕ
+
+unfoldable pub beatOf : Card → Pace → Beat
+beatOf card p = record { next = p .next; span = intervalAt card (p .mr4) }
+
+unfoldable pub startPace : Card → Pace
+startPace card = record { next = intervalAt card startMR4; mr4 = startMR4 }
 
 -- for each question, the latest entries that it asks about, the newest first and as many as it passes over and one more
 abbrev pub History : Type 0
@@ -77,10 +90,12 @@ pub record Share : Type 0 where
   pub history : History
   pub ledger : Ledger
 
--- the card, the last entry's stamp, of whichever part, if there is one, and each part's share. That of a part which the trace does not have is not looked at
+-- the card, the last entry's stamp, of whichever part, if there is one, one pace for all parts, and each part's share. That of a part which the trace does
+-- not have is not looked at
 pub record Lent : Type 0 where
   pub card : Card
   pub last : Option ℕ
+  pub pace : Pace
   pub share : ℕ → Share
 
 unfoldable pub hasPart : Card → ℕ → Bool
@@ -186,23 +201,31 @@ commandIn l e = recordedAs (readIn l e)
 unfoldable pub moveIn : Lent → Entry → Move
 moveIn l e = moveOf (readIn l e)
 
--- what an entry does to a ledger: whether it is a counted refresh, and the level from there on
+unfoldable pub mr4In : Lent → Entry → Option ℕ
+mr4In l e = mr4Of (readIn l e)
+
+-- what an entry does to a ledger: whether it is a counted refresh, whether it is a temperature, and its move
 pub record Effect : Type 0 where
   pub counted : Bool
-  pub level : Level
+  pub sensed : Bool
+  pub move : Move
 
-unfoldable pub effectOf : Read → (counter : ℕ) → Level → Effect
-effectOf r n v = record { counted = isCounted (recordedAs r) n; level = levelAfter (moveOf r) v }
+unfoldable pub isThere : Option ℕ → Bool
+isThere none = false
+isThere (some v) = true
+
+unfoldable pub effectOf : Read → (counter : ℕ) → Effect
+effectOf r n = record { counted = isCounted (recordedAs r) n; sensed = isThere (mr4Of r); move = moveOf r }
 
 unfoldable pub effectIn : Lent → Entry → Effect
-effectIn l e = effectOf (readIn l e) (ownIn l e .counter) (ownIn l e .ledger .level)
+effectIn l e = effectOf (readIn l e) (ownIn l e .counter)
 
 -- on a part whose own entry it is not: nothing
-unfoldable pub noEffect : Level → Effect
-noEffect v = record { counted = false; level = v }
+unfoldable pub noEffect : Effect
+noEffect = record { counted = false; sensed = false; move = stays }
 
 unfoldable pub effectOn : Lent → Entry → ℕ → Effect
-effectOn l e p = cond (isOf p (whoseOf (l .card) e)) (effectIn l e) (noEffect (l .share p .ledger .level))
+effectOn l e p = cond (isOf p (whoseOf (l .card) e)) (effectIn l e) noEffect
 
 -- The ledger as after cycle t, idle up to it. What fell due at the cycle where it stands is not added again. Where the cycles of its level are not counted
 -- its number stays, and it gains nothing
@@ -223,17 +246,22 @@ unfoldable pub refreshedAt : Bool → Ledger → Ledger
 refreshedAt true g = record { at = g .at; owing = takeOne (lpddr3 .credit) (g .owing); since = numberOf g; skipped = g .skipped; level = g .level }
 refreshedAt false g = g
 
+-- a temperature where it stands: the gap counts from there
+unfoldable pub sensedAt : Bool → Ledger → Ledger
+sensedAt true g = record { at = g .at; owing = g .owing; since = numberOf g; skipped = g .skipped; level = g .level }
+sensedAt false g = g
+
 unfoldable pub atLevel : Level → Ledger → Ledger
 atLevel v g = record { at = g .at; owing = g .owing; since = g .since; skipped = g .skipped; level = v }
 
 -- an entry's own cycle, and the level from there on. Of a ledger alone it is not known whether an entry came at its cycle: a second counted refresh there
 -- takes 1 more (proofs/Ledgers, `entered-again`); that stamps rise is asked of a record
 unfoldable pub entered : Effect → Beat → Ledger → ℕ → Ledger
-entered x b g t = atLevel (x .level) (refreshedAt (x .counted) (ledgerTo b g t))
+entered x b g t = atLevel (levelAfter (x .move) (g .level)) (sensedAt (x .sensed) (refreshedAt (x .counted) (ledgerTo b g t)))
 
 -- each part's ledger after an entry, whosesoever
 unfoldable pub ledgerWith : Lent → Entry → ℕ → Ledger
-ledgerWith l e p = entered (effectOn l e p) (beatOf (l .card)) (l .share p .ledger) (e .stamp)
+ledgerWith l e p = entered (effectOn l e p) (beatOf (l .card) (l .pace)) (l .share p .ledger) (e .stamp)
 
 -- 19 and 20 after the cycle where the ledger stands
 unfoldable pub failingOf : Beat → Ledger → Option (ℕ × ℕ)
@@ -246,10 +274,19 @@ failingTo b g t =
 
 -- of every part: the earliest, and at one cycle the first part's
 unfoldable pub failingsTo : Lent → ℕ → Option (ℕ × ℕ)
-failingsTo l t = earliest (map (λ p. failingTo (beatOf (l .card)) (l .share p .ledger) t) (parts (l .card)))
+failingsTo l t = earliest (map (λ p. failingTo (beatOf (l .card) (l .pace)) (l .share p .ledger) t) (parts (l .card)))
 
 unfoldable pub failingsWith : Lent → Entry → Option (ℕ × ℕ)
-failingsWith l e = firstOf (map (λ p. failingOf (beatOf (l .card)) (ledgerWith l e p)) (parts (l .card)))
+failingsWith l e = firstOf (map (λ p. failingOf (beatOf (l .card) (l .pace)) (ledgerWith l e p)) (parts (l .card)))
+
+-- the pace after an entry: a temperature at number n spaces the dues anew
+unfoldable pub paceBy : Card → (n : ℕ) → Option ℕ → Pace → Pace
+paceBy card n none p = p
+paceBy card n (some v) p = record { next = respaced (beatOf card p) n (intervalAt card v) .next; mr4 = v }
+
+-- by the number at which the first part's ledger then stands; where the ledgers stand for a list, every part's stands there
+unfoldable pub paceWith : Lent → Entry → Pace
+paceWith l e = paceBy (l .card) (numberOf (ledgerWith l e 0)) (mr4In l e) (l .pace)
 
 -- 13, then the checks of an entry
 unfoldable pub stepRefusal : Lent → Entry → Option Refusal
@@ -257,7 +294,7 @@ stepRefusal l e =
     let t = e .stamp in
     firstOf (
     unless (lentGood l) 13 ∷
-    checks (l .card) (delaysOf (l .card)) (viewIn l (partIn (l .card) e)) (aboveLast (l .last) t && notBehind l t) (failingsTo l t) (failingsWith l e)
+    checks (l .card) (delaysAt (l .card) (l .pace .mr4)) (viewIn l (partIn (l .card) e)) (aboveLast (l .last) t && notBehind l t) (failingsTo l t) (failingsWith l e)
     (readIn l e) t
     )
 
@@ -291,37 +328,37 @@ shareWith l e p =
 
 -- the record after an entry that was taken
 unfoldable pub lentAfter : Lent → Entry → Lent
-lentAfter l e = record { card = l .card; last = some (e .stamp); share = λ p. cond (hasPart (l .card) p) (shareWith l e p) (l .share p) }
+lentAfter l e = record { card = l .card; last = some (e .stamp); pace = paceWith l e; share = λ p. cond (hasPart (l .card) p) (shareWith l e p) (l .share p) }
 
 -- ---- the end offered to a record: 13, 5, 11; it answers with each part's ledger moved on to E
 unfoldable pub closeRefusal : Lent → ℕ → Option Refusal
 closeRefusal l end =
     firstOf (unless (lentGood l) 13 ∷ unless (lastBy (l .last) end && notBehind l end) 5 ∷ named 11 (failingsTo l (suc end)) ∷ [])
 
--- ---- a ledger lent alone, with its card, and moved on to cycle c: 13, 5, 11
+-- ---- a ledger lent alone, with its card and its pace, and moved on to cycle c: 13, 5, 11
 unfoldable pub ledgerGood : Card → Ledger → Bool
 ledgerGood card g = cardGood card && owingGood (g .owing) && sinceGood g
 
-unfoldable pub moveRefusal : Card → Ledger → ℕ → Option Refusal
-moveRefusal card g c =
-    firstOf (unless (ledgerGood card g) 13 ∷ unless (leb (g .at) c) 5 ∷ named 11 (failingTo (beatOf card) g (suc c)) ∷ [])
+unfoldable pub moveRefusal : Card → Pace → Ledger → ℕ → Option Refusal
+moveRefusal card p g c =
+    firstOf (unless (ledgerGood card g) 13 ∷ unless (leb (g .at) c) 5 ∷ named 11 (failingTo (beatOf card p) g (suc c)) ∷ [])
 
-unfoldable pub movedOn : Card → Ledger → ℕ → Ledger
-movedOn card g c = ledgerTo (beatOf card) g c
+unfoldable pub movedOn : Card → Pace → Ledger → ℕ → Ledger
+movedOn card p g c = ledgerTo (beatOf card p) g c
 
 -- and taken through an entry's own cycle t: 13, 5, 11 below it, 11 at it
-unfoldable pub enterRefusal : Effect → Card → Ledger → ℕ → Option Refusal
-enterRefusal x card g t =
+unfoldable pub enterRefusal : Effect → Card → Pace → Ledger → ℕ → Option Refusal
+enterRefusal x card p g t =
     firstOf (
     unless (ledgerGood card g) 13 ∷
     unless (leb (g .at) t) 5 ∷
-    named 11 (failingTo (beatOf card) g t) ∷
-    named 11 (failingOf (beatOf card) (entered x (beatOf card) g t)) ∷ []
+    named 11 (failingTo (beatOf card p) g t) ∷
+    named 11 (failingOf (beatOf card p) (entered x (beatOf card p) g t)) ∷ []
     )
 
 -- the record with another ledger of part p
 unfoldable pub putLedger : Lent → ℕ → Ledger → Lent
-putLedger l p g = record { card = l .card; last = l .last; share = λ q. cond (eqb q p) (withLedger g (l .share q)) (l .share q) }
+putLedger l p g = record { card = l .card; last = l .last; pace = l .pace; share = λ q. cond (eqb q p) (withLedger g (l .share q)) (l .share q) }
 
 -- ---- the record that stands for a past, part p's ledger moved on to cycle c p; a cycle that is not after the last entry moves nothing
 unfoldable pub lastOf : Past → Option ℕ
@@ -341,6 +378,10 @@ ledgerAt card own t = record {
   skipped = t - clock own t;
   level = levelAt own;
 }
+
+-- the pace that stands for a part's own entries; where there are two parts it is one (proofs/Paces)
+unfoldable pub paceOf : Card → Past → Pace
+paceOf card own = record { next = beatAt card own .next; mr4 = mr4At own }
 
 unfoldable pub shareOf : Card → Past → ℕ → Share
 shareOf card own t = record {
@@ -368,11 +409,12 @@ unfoldable pub standing : Card → Past → (ℕ → ℕ) → Lent
 standing card past c = record {
   card = card;
   last = lastOf past;
+  pace = paceOf card (ofPart 0 past);
   share = λ p. cond (hasPart card p) (shareOf card (ofPart p past) (standsAt past c p)) (freshShare card);
 }
 
 unfoldable pub fresh : Card → Lent
-fresh card = record { card = card; last = none; share = λ p. freshShare card }
+fresh card = record { card = card; last = none; pace = startPace card; share = λ p. freshShare card }
 
 -- every entry of the past passed all its checks
 unfoldable pub AllTaken : Card → Past → Type 0

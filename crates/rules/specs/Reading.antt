@@ -11,13 +11,13 @@ use lib.Signed.{_≤ℤ_}
 use lib.ListN.{length, take, getD}
 use Rattle.rules.specs.Lists.{Every}
 use Rattle.rules.specs.Card.{Card}
-use Rattle.rules.specs.Units.{delaysOf}
+use Rattle.rules.specs.Heat.{mr4Good, delaysAt}
 use Rattle.rules.specs.Pins.{wrongBits, reserved}
-use Rattle.rules.specs.Past.{Past, isOpen, counterAt, commandCount}
+use Rattle.rules.specs.Past.{Past, mr4At, isOpen, counterAt, commandCount}
 use Rattle.rules.specs.States.{stateGood}
 use Rattle.rules.specs.Folds.{Found, Rule}
 use Rattle.rules.specs.Delays.{lookBoth, find, delayRules}
-use Rattle.rules.specs.Levels.{plain, barred, clash}
+use Rattle.rules.specs.Levels.{plain, barred, clash, sensed}
 use Rattle.rules.specs.Entries.{Entry, entry, ownFor, othersFor, readFor, moveOf, judgedAs, pastWith, pastOver}
 use Rattle.rules.specs.Account.{Terms, lpddr3, Book, ledgerOn, sinceOn}
 use Rattle.rules.specs.Clock.{booksOf}
@@ -121,7 +121,8 @@ entryReads card past e =
     plainly 8 (stateGood (λ b. isOpen b own) (counterAt own) c ≡ true) ∷
     plainly 16 (¬ (r ≡ barred)) ∷
     plainly 9 (valueGood card c ≡ true) ∷
-    inTime (lookBoth (find card own) (find card others)) (delayRules (delaysOf card) c (moveOf r) (counterAt own)) (e .stamp) ∷
+    plainly 26 ((v : ℕ) → r ≡ sensed v → mr4Good v ≡ true) ∷
+    inTime (lookBoth (find card own) (find card others)) (delayRules (delaysAt card (mr4At own)) c (moveOf r) (counterAt own)) (e .stamp) ∷
     paidAt lpddr3 (booksOf card (pastWith card past e)) (e .stamp) ∷ []
 
 unfoldable pub endReads : Card → Past → ℕ → List Check

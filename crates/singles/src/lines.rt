@@ -48,6 +48,7 @@ pub fn of_step(answer: Answer) {
         Answer::State => refused(8, 0, 0),
         Answer::Barred => refused(16, 0, 0),
         Answer::Value => refused(9, 0, 0),
+        Answer::Code => refused(26, 0, 0),
         Answer::TooSoon { rule, cycle } => refused(10, rule as u64, cycle),
     }
 }

@@ -1,4 +1,4 @@
-// The documents' cases and other points, by single steps. A line for each entry, end and move: the case's number, then `taken`, the ledger's number (at an end
+// The documents' cases and other points, by single steps. A line for each entry, temperature, end and move: the case's number, then `taken`, the ledger's number (at an end
 // of two parts each one's), or `refused` with the refusal's number, rule and cycle; and a line `changed` where the share of a part that is not there does not come
 // back to the bit. Behind them what the writer does for the part that it is told, and what is read.
 // The cases are told in cases.txt; the file stdout is worked out from it by expected.py, over the list of entries.
@@ -9,6 +9,7 @@ mod table;
 mod writing;
 
 use bank::Record;
+use step::Stepped;
 
 // A part that the card does not have is not looked at.
 fn stays(paired: bool, kept: bool) {
@@ -18,13 +19,20 @@ fn stays(paired: bool, kept: bool) {
     lines::of_change();
 }
 
-fn steps(rec: Record, stamp: u32, pins: u32) -> Record {
-    let stepped = step::step(rec, stamp, pins);
+fn shows(rec: Record, stepped: Stepped) -> Record {
     let answer = stepped.answer;
     lines::of_step(answer);
     let kept = same::shares(rec.second, stepped.rec.second);
     stays(rec.card.paired, kept);
     stepped.rec
+}
+
+fn steps(rec: Record, stamp: u32, pins: u32) -> Record {
+    shows(rec, step::step(rec, stamp, pins))
+}
+
+fn senses(rec: Record, stamp: u32, mr4: u32) -> Record {
+    shows(rec, step::sense(rec, stamp, (mr4 % 256) as u8))
 }
 
 fn ends(rec: Record, end: u32) -> Record {
@@ -38,7 +46,7 @@ fn ends(rec: Record, end: u32) -> Record {
 // The ledger is taken out of the record, moved on and put back.
 fn moves(rec: Record, part: u32, to: u32) -> Record {
     let share = places::share_of(rec, part);
-    let after = ledger::moved(share.ledger, rec.card, to);
+    let after = ledger::moved(share.ledger, rec.pace, rec.card, to);
     lines::of_move(after);
     let ledger = after.ledger;
     let mut next = share;
@@ -51,6 +59,9 @@ fn called(rec: Record, case: u32, part: u32, what: u32, cycle: u32) -> Record {
         return places::put(rec, part, what, cycle);
     }
     lines::of_case(case);
+    if table::MR4 <= what {
+        return senses(rec, cycle, what - table::MR4);
+    }
     match what {
         table::END => ends(rec, cycle),
         table::MOVE => moves(rec, part, cycle),

@@ -12,6 +12,7 @@ use bank::Record;
 use bank::Share;
 use card::Card;
 use ledger::Ledger;
+use ledger::Pace;
 use pins::Level;
 
 // The card. Its eighteen durations stand from DURATION on and its floors from FLOOR on; those that the cases use have names.
@@ -30,6 +31,8 @@ pub const FLOOR: u32 = 0x3000016;
 pub const TRCD: u32 = 0x3000004;
 
 pub const TRPPB: u32 = 0x3000005;
+
+pub const TFAW: u32 = 0x3000009;
 
 pub const TRTP: u32 = 0x300000a;
 
@@ -137,6 +140,15 @@ pub const NOTED_WR0: u32 = 0x300004a;
 
 pub const NOTED_WRA0: u32 = 0x300004b;
 
+// Of the temperature: what the hottest code adds, the two halves of the next due, and MR4.
+pub const RAISE: u32 = 0x300004c;
+
+pub const NEXT_HIGH: u32 = 0x300004d;
+
+pub const NEXT_LOW: u32 = 0x300004e;
+
+pub const SENSED_MR4: u32 = 0x300004f;
+
 fn byte(value: u32) -> u8 {
     (value % 256) as u8
 }
@@ -211,6 +223,7 @@ fn into_card(card: Card, place: u32, value: u32) -> Card {
         SLEEPS => next.sleeps = value == 1,
         PAIRED => next.paired = value == 1,
         GAP => next.gap = byte(value),
+        RAISE => next.raise = value,
         _ => {}
     }
     next
@@ -344,6 +357,18 @@ fn into_last(last: Once, place: u32, value: u32) -> Once {
     }
 }
 
+// The upper half comes first: the lower one is added to it.
+fn into_pace(pace: Pace, place: u32, value: u32) -> Pace {
+    let mut next = pace;
+    match place {
+        NEXT_HIGH => next.next = value as u64 * 4294967296,
+        NEXT_LOW => next.next = pace.next / 4294967296 * 4294967296 + value as u64,
+        SENSED_MR4 => next.mr4 = byte(value),
+        _ => {}
+    }
+    next
+}
+
 pub fn share_of(rec: Record, part: u32) -> Share {
     if part == 0 {
         return rec.first;
@@ -367,5 +392,6 @@ pub fn put(rec: Record, part: u32, place: u32, value: u32) -> Record {
     let mut next = with_share(rec, part, share);
     next.card = into_card(rec.card, place, value);
     next.last = into_last(rec.last, place, value);
+    next.pace = into_pace(rec.pace, place, value);
     next
 }

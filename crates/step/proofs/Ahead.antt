@@ -6,7 +6,7 @@ use mathlib.Core.List.{List}
 use mathlib.Core.Option.{none}
 use lib.ListN.{drop}
 use Rattle.rules.specs.Commands.{NOP, is}
-use Rattle.rules.specs.Entries.{Entry, recordedAs}
+use Rattle.rules.specs.Entries.{entry, recordedAs}
 use Rattle.rules.proofs.Tests.{both-true}
 use Rattle.card.specs.declared.Delays.{Delays}
 use Rattle.pins.specs.Fronts.{frontOf}
@@ -19,6 +19,7 @@ use Rattle.step.specs.Values.{recordWith}
 use Rattle.step.specs.Runs.{entryAt, takes, commandsBy, refreshesBy, behind}
 use Rattle.step.specs.Single.{whole, gone, goneBehind, ranWith, readBy, refusalBy, singleWith, Ready}
 use Rattle.step.specs.Quick.{goesOn, quickOf}
+use Rattle.step.proofs.Paced.{single-pace}
 use Rattle.step.proofs.Kept.{Good, good-with}
 use Rattle.step.proofs.Onward.{takes-if, Part, part-none, part-on}
 use Rattle.step.proofs.Alone.{commands-by, refreshes-by, good, refusals, record-with}
@@ -30,13 +31,15 @@ module _ (d : Delays) (s : Single) (ready : Ready s d) (arrays : ShareWhole (s .
   pub good-whole : Good (whole (s .share) s)
   good-whole = record { passed = good (s .share) s (ready .single) ∙ ready .sound; arrays = record { first = arrays; second = arrays } }
 
-  sound-next : (e : Entry) → refusalBy s e ≡ none → Ready (singleWith s e) d × ShareWhole (singleWith s e .share)
+  -- pins leave the pace
+  sound-next : (t p : ℕ) → refusalBy s (entry t p) ≡ none → Ready (singleWith s (entry t p)) d × ShareWhole (singleWith s (entry t p) .share)
   unfolding singleWith
-  sound-next e n =
+  sound-next t p n =
+      let e = entry t p in
       let x = s .share in
       let there : Good (whole x (singleWith s e)) =
       subst Good (record-with x s (ready .single) e) (good-with (whole x s) e good-whole (refusals x s (ready .single) e ∙ n)) in (
-        record { single = ready .single; sound = sym (good x (singleWith s e) (ready .single)) ∙ there .passed; clocks = ready .clocks },
+        record { single = ready .single; sound = sym (good x (singleWith s e) (ready .single)) ∙ there .passed; clocks = rw (single-pace s t p) (ready .clocks) },
         there .arrays .first,
       )
 
@@ -90,7 +93,7 @@ quick-more n d s bs ih ready arrays x = go (goesOn d s (frontOf bs)) refl
     go : (b : Bool) → goesOn d s (frontOf bs) ≡ b → PartBy (suc n) s bs x (quickOf (suc n) d s bs)
     go false e = subst (PartBy (suc n) s bs x) (sym (quick-off n d s bs e)) (unfold ranWith in part-none (suc n) (whole x s) bs)
     go true e =
-        let next = sound-next d s ready arrays (entryAt bs) (cleared d s bs ready e .taken) in
+        let next = sound-next d s ready arrays _ _ (cleared d s bs ready e .taken) in
         let g = then n d s bs in
         let rest : Part n (recordWith (whole x s) (entryAt bs)) (drop 10 bs) (ranWith x g) =
         subst (λ (r : Record). Part n r (drop 10 bs) (ranWith x g)) (sym (record-with x s (ready .single) (entryAt bs))) (ih (next .0) (next .1) x) in

@@ -9,6 +9,7 @@ use Rattle.rules.specs.Whose.{Whose, isOf}
 use Rattle.rules.specs.Levels.{Move}
 use Rattle.card.specs.declared.Card.{Card}
 use Rattle.ledger.specs.declared.Ledger.{Ledger}
+use Rattle.ledger.specs.declared.Pace.{Pace}
 use Rattle.bank.specs.declared.Each.{Each}
 use Rattle.bank.specs.declared.NotedEach.{NotedEach}
 use Rattle.bank.specs.declared.Share.{Share}
@@ -99,9 +100,9 @@ unfolding shareTaken
 taken-share true s c v t g w = after-share s c v t g w
 taken-share false s c v t g w = ledger-share s g w
 
-pub after-whole : (r : Record) (o : Whose) (c : Command) (v : Move) (t : ℕ) (g : Ledgers) → Whole r → Whole (recordAfter r o c v t g)
+pub after-whole : (r : Record) (o : Whose) (c : Command) (v : Move) (t : ℕ) (g : Ledgers) (z : Pace) → Whole r → Whole (recordAfter r o c v t g z)
 unfolding recordAfter
-after-whole r o c v t g w = record {
+after-whole r o c v t g z w = record {
   first = taken-share (isOf 0 o) (r .first) c v t (g .first) (w .first);
   second = taken-share (isOf 1 o) (r .second) c v t (g .second) (w .second);
 }

@@ -8,7 +8,6 @@ use native.Mathlib.Omega.{arith}
 use lib.Dec.{ltb}
 use lib.ListN.{length, drop}
 use borrow.Author.Tests.{lt-ltb, ltb-true, not-true, not-false}
-use Rattle.rules.specs.Clock.{beatOf}
 use Rattle.rules.specs.Lent.{ledgerTo, moveRefusal, movedOn}
 use Rattle.rules.proofs.Tests.{both-true}
 use Rattle.rules.proofs.Ledgers.{as-it-was}
@@ -16,7 +15,7 @@ use Rattle.card.specs.Values.{cardOf}
 use Rattle.card.specs.declared.Delays.{Delays}
 use Rattle.pins.specs.declared.Front.{Front}
 use Rattle.pins.specs.Fronts.{frontOf}
-use Rattle.ledger.specs.Values.{ledgerOf, codeOf, unlessRefused, Left, deadlineOf}
+use Rattle.ledger.specs.Values.{ledgerOf, codeOf, paceOf, unlessRefused, Left, deadlineOf}
 use Rattle.ledger.specs.declared.After.{After}
 use Rattle.ledger.proofs.Promises.{code-is}
 use Rattle.bank.specs.After.{onceAt}
@@ -25,7 +24,7 @@ use Rattle.bank.specs.declared.Bus.{Bus}
 use Rattle.bank.specs.declared.Four.{Four}
 use Rattle.step.specs.declared.single.Single.{Single}
 use Rattle.step.specs.Ready.{standsOf}
-use Rattle.step.specs.Single.{gone, goneBehind}
+use Rattle.step.specs.Single.{gone, goneBehind, duesBy}
 use Rattle.step.specs.Quick.{goesOn, quickOf, nowOf, EndArgs}
 use Rattle.step.proofs.Farther.{from-start, behind-none}
 use Rattle.step.proofs.Cleared.{ready-parts}
@@ -33,12 +32,12 @@ use Rattle.step.proofs.Standing.{not-so, stands-so, unrefused}
 
 -- ---- the end of a run
 pub end-ledger : (rec : Single) (t : ℕ) → EndArgs rec t → (r : After)
-    → Left (moveRefusal (cardOf (rec .card)) (ledgerOf (rec .share .ledger)) t) (ledgerOf (rec .share .ledger)) (movedOn (cardOf (rec .card)) (ledgerOf (rec .share .ledger)) t) r
-    → r .ledger ≡ codeOf (ledgerTo (beatOf (cardOf (rec .card))) (ledgerOf (rec .share .ledger)) t)
+    → Left (moveRefusal (cardOf (rec .card)) (paceOf (rec .pace)) (ledgerOf (rec .share .ledger)) t) (ledgerOf (rec .share .ledger)) (movedOn (cardOf (rec .card)) (paceOf (rec .pace)) (ledgerOf (rec .share .ledger)) t) r
+    → r .ledger ≡ codeOf (ledgerTo (duesBy rec) (ledgerOf (rec .share .ledger)) t)
 end-ledger rec t a r l = sym (code-is (r .ledger)) ∙ ap codeOf (l .ledger ∙ moves)
   where
-    moves : unlessRefused (moveRefusal (cardOf (rec .card)) (ledgerOf (rec .share .ledger)) t) (ledgerOf (rec .share .ledger)) (movedOn (cardOf (rec .card)) (ledgerOf (rec .share .ledger)) t)
-        ≡ ledgerTo (beatOf (cardOf (rec .card))) (ledgerOf (rec .share .ledger)) t
+    moves : unlessRefused (moveRefusal (cardOf (rec .card)) (paceOf (rec .pace)) (ledgerOf (rec .share .ledger)) t) (ledgerOf (rec .share .ledger)) (movedOn (cardOf (rec .card)) (paceOf (rec .pace)) (ledgerOf (rec .share .ledger)) t)
+        ≡ ledgerTo (duesBy rec) (ledgerOf (rec .share .ledger)) t
     moves = rw (unrefused rec t a) (unfold unlessRefused movedOn in refl)
 
 -- what a loop keeps: the run from the start is the run from here
@@ -52,14 +51,14 @@ pub record Going (d : Delays) (rec : Single) (v : List ℕ) (most : ℕ) (banks 
 
 -- ---- its beginning
 module _ (d : Delays) (rec : Single) (bs : List ℕ) where
-  may-begin : (f : Front) → goesOn d rec f ≡ true → (standsOf rec && ltb (rec .last .at) (deadlineOf (rec .card) (rec .share .ledger))) ≡ true
+  may-begin : (f : Front) → goesOn d rec f ≡ true → (standsOf rec && ltb (rec .last .at) (deadlineOf (rec .card) (rec .pace) (rec .share .ledger))) ≡ true
   unfolding goesOn
   may-begin f e =
       let r = ready-parts d rec (f .stamp) (f .pins) (both-true (f .whole) _ e .1) in
-      rw (r .0, lt-ltb (rec .last .at) (deadlineOf (rec .card) (rec .share .ledger)) (lt-trans (r .1 .above) (r .1 .early)))
+      rw (r .0, lt-ltb (rec .last .at) (deadlineOf (rec .card) (rec .pace) (rec .share .ledger)) (lt-trans (r .1 .above) (r .1 .early)))
 
   -- none is taken where the ledger does not stand at the last entry
-  not-begun : (standsOf rec && ltb (rec .last .at) (deadlineOf (rec .card) (rec .share .ledger))) ≡ false → (most : ℕ) → gone rec 0 0 0 ≡ quickOf most d rec bs
+  not-begun : (standsOf rec && ltb (rec .last .at) (deadlineOf (rec .card) (rec .pace) (rec .share .ledger))) ≡ false → (most : ℕ) → gone rec 0 0 0 ≡ quickOf most d rec bs
   unfolding quickOf
   not-begun n zero = refl
   not-begun n (suc most) = go (goesOn d rec (frontOf bs)) refl
@@ -72,7 +71,7 @@ module _ (d : Delays) (rec : Single) (bs : List ℕ) where
   begins-there e =
       let p = stands-so rec e in
       let at = rec .last .at in
-      let b = beatOf (cardOf (rec .card)) in
+      let b = duesBy rec in
       let l : onceAt at ≡ rec .last = λ i. record { seen = sym (p .seen) i; at = at } in
       let s : at ≡ ledgerOf (rec .share .ledger) .at = unfold ledgerOf in sym (p .there) in
       let g : codeOf (ledgerTo b (ledgerOf (rec .share .ledger)) at) ≡ rec .share .ledger =
@@ -81,6 +80,7 @@ module _ (d : Delays) (rec : Single) (bs : List ℕ) where
       λ i. record {
         card = rec .card;
         last = l i;
+        pace = rec .pace;
         share = record {
           mr2 = rec .share .mr2;
           counter = rec .share .counter;
@@ -96,7 +96,7 @@ module _ (d : Delays) (rec : Single) (bs : List ℕ) where
   begins : standsOf rec ≡ true → (most : ℕ) → quickOf most d rec bs ≡ goneBehind 0 0 0 (quickOf most d (nowOf rec (rec .share .banks) (rec .share .bus) (rec .share .four) (rec .last .at)) (drop 0 bs))
   begins e most = rw (begins-there e) (sym (from-start (quickOf most d rec bs)))
 
-  module _ (end : ℕ) (es : end ≡ deadlineOf (rec .card) (rec .share .ledger)) (ok : Bool) (os : ok ≡ (standsOf rec && ltb (rec .last .at) end)) (most : ℕ) where
+  module _ (end : ℕ) (es : end ≡ deadlineOf (rec .card) (rec .pace) (rec .share .ledger)) (ok : Bool) (os : ok ≡ (standsOf rec && ltb (rec .last .at) end)) (most : ℕ) where
     pub unbegun : not ok ≡ true → gone rec 0 0 0 ≡ quickOf most d rec bs
     unbegun n = not-begun (sym (rw es at os) ∙ not-true ok n) most
 

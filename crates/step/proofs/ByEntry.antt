@@ -1,28 +1,31 @@
 -- A run over any sound record, one entry after the other by the table.
 use Prim.Native.Nat.{ℕ, suc, _+_, _-_, _≤_, _<_, _^_}
-use mathlib.Core.Path.{_≡_, refl, ap, sym, _∙_}
+use mathlib.Core.Path.{_≡_, refl, ap, sym, _∙_, subst}
 use mathlib.Core.Bool.{Bool, true, false, _&&_}
 use mathlib.Core.List.{List}
 use native.Mathlib.Omega.{arith}
 use lib.ListN.{length, drop, length-drop}
 use lib.Seq.{drop-drop}
-use Rattle.rules.specs.Units.{delaysOf}
+use Rattle.rules.specs.Heat.{delaysAt}
 use Rattle.rules.specs.Entries.{whoseOf}
-use Rattle.rules.specs.Lent.{Lent, readIn, commandIn, moveIn, stepRefusal, lentAfter}
+use Rattle.rules.specs.Lent.{readIn, commandIn, moveIn, stepRefusal, lentAfter}
 use Rattle.rules.proofs.Sound.{good-kept}
+use Rattle.card.specs.Values.{clocksOf}
 use Rattle.card.specs.declared.Delays.{Delays}
 use Rattle.pins.specs.Fronts.{frontOf}
+use Rattle.ledger.specs.declared.Pace.{Pace}
 use Rattle.ledger.specs.Values.{isNone}
 use Rattle.bank.specs.declared.Record.{Record}
 use Rattle.bank.specs.Values.{lentOf}
-use Rattle.bank.specs.After.{Changed}
+use Rattle.bank.specs.After.{recordAfter, Changed}
 use Rattle.step.specs.declared.Ran.{Ran}
 use Rattle.step.specs.declared.offering.Ruling.{Ruling}
 use Rattle.step.specs.Values.{refusalOf, recordWith}
 use Rattle.step.specs.Runs.{entryAt, takes, commandsBy, refreshesBy, ran, behind, runOf}
 use Rattle.step.specs.Parts.{Prepared, Ruled, OneOn, Fitting}
 use Rattle.step.proofs.Answers.{none-so}
-use Rattle.step.proofs.Leaves.{ruled-told, ruled-record, ruled-lent}
+use Rattle.step.proofs.Paced.{pins-pace}
+use Rattle.step.proofs.Leaves.{ChangedBy, ruled-told, ruled-record, ruled-lent}
 use Rattle.step.proofs.Onward.{takes-if, run-on, run-stops, Counted, run-counted, Part, run-part, behind-twice, from-start, behind-none, run-then}
 
 -- ---- one entry
@@ -31,7 +34,7 @@ module _ (d : Delays) (rec : Record) (bs : List ℕ) (s : Prepared rec d) where
   unfolding takes
   none-there e = record { is = sym (run-stops rec bs (rw e) 1); sound = s }
 
-  module _ (y : Ruling) (ruled : Ruled (delaysOf (lentOf rec .card)) (lentOf rec) (whoseOf (lentOf rec .card) (entryAt bs)) (readIn (lentOf rec) (entryAt bs)) (frontOf bs .stamp) y) where
+  module _ (y : Ruling) (ruled : Ruled (delaysAt (lentOf rec .card) (lentOf rec .pace .mr4)) (lentOf rec) (whoseOf (lentOf rec .card) (entryAt bs)) (readIn (lentOf rec) (entryAt bs)) (frontOf bs .stamp) y) where
     told : refusalOf (y .answer) ≡ stepRefusal (lentOf rec) (entryAt bs)
     told = ruled-told rec (entryAt bs) (s .good) y ruled
 
@@ -43,24 +46,30 @@ module _ (d : Delays) (rec : Record) (bs : List ℕ) (s : Prepared rec d) where
         refused true = rw (← told) e
         refused false = refl
 
-    -- an entry that is taken leaves a record that 13 lets pass, of the same card
+    -- an entry that is taken leaves a record that 13 lets pass, of the same card and pace
     module _ (whole : frontOf bs .whole ≡ true) (n : isNone (refusalOf (y .answer)) ≡ true) (z : Record)
-        (changed : Changed rec (frontOf bs .stamp) (whoseOf (lentOf rec .card) (entryAt bs)) (commandIn (lentOf rec) (entryAt bs)) (moveIn (lentOf rec) (entryAt bs)) (y .ledgers) z) where
+        (changed : Changed rec (frontOf bs .stamp) (whoseOf (lentOf rec .card) (entryAt bs)) (commandIn (lentOf rec) (entryAt bs)) (moveIn (lentOf rec) (entryAt bs)) (y .ledgers) (rec .pace) z) where
+      changed-so : ChangedBy rec (entryAt bs) (y .ledgers) z
+      changed-so =
+          let l = lentOf rec in
+          let e = entryAt bs in
+          subst (λ (k : Pace). Changed rec (e .stamp) (whoseOf (l .card) e) (commandIn l e) (moveIn l e) (y .ledgers) k z) (sym (pins-pace rec _ _)) changed
+
       after-it : lentOf z ≡ lentAfter (lentOf rec) (entryAt bs)
-      after-it = ruled-lent rec (entryAt bs) (s .good) y ruled (none-so _ n) z changed
+      after-it = ruled-lent rec (entryAt bs) (s .good) y ruled (none-so _ n) z changed-so
+
+      same-clocks : clocksOf d ≡ delaysAt (lentOf z .card) (lentOf z .pace .mr4)
+      unfolding recordAfter lentOf
+      same-clocks = rw (changed .is) (s .clocks)
 
       sound-then : Prepared z d
-      unfolding lentAfter
-      sound-then = record {
-        good = rw after-it (good-kept (lentOf rec) (entryAt bs) (sym told ∙ none-so _ n));
-        clocks = s .clocks ∙ ap (λ (l : Lent). delaysOf (l .card)) (sym after-it);
-      }
+      sound-then = record { good = rw after-it (good-kept (lentOf rec) (entryAt bs) (sym told ∙ none-so _ n)); clocks = same-clocks }
 
       pub taken-there : (m f : ℕ) → m ≡ commandsBy rec (entryAt bs) → f ≡ refreshesBy rec (entryAt bs) → OneOn rec d bs (ran z 10 m f)
       unfolding runOf
       taken-there m f me fe =
           let entry = entryAt bs in
-          let there = ruled-record rec entry (s .good) y ruled (none-so _ n) z (changed .is) in
+          let there = ruled-record rec entry (s .good) y ruled (none-so _ n) z (changed-so .is) in
           let on = run-on rec bs (takes-if rec bs whole (sym told ∙ none-so _ n)) 0 in
           record {
             is = (λ i. ran (there i) 10 (me i) (fe i)) ∙ sym (behind-none (ran (recordWith rec entry) 10 (commandsBy rec entry) (refreshesBy rec entry))) ∙ sym on;

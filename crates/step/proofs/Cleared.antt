@@ -15,11 +15,10 @@ use Rattle.rules.specs.States.{goes, stateGood}
 use Rattle.rules.specs.Pins.{Decoded, good, wrongBits, reserved, decode}
 use Rattle.rules.specs.Levels.{levelAfter, plain}
 use Rattle.rules.specs.Account.{Beat}
-use Rattle.rules.specs.Clock.{beatOf}
 use Rattle.rules.specs.Folds.{orElse, firstOf}
-use Rattle.rules.specs.Entries.{entry, commandOf, recordedAs, moveOf, judgedAs}
-use Rattle.rules.specs.Checks.{unless, named, isWrong, isClash, isReserved, isBarred, valueGood, checks}
-use Rattle.rules.specs.Lent.{aboveLast, effectOf, ledgerTo, refreshedAt, atLevel, entered, failingTo, failingOf}
+use Rattle.rules.specs.Entries.{entry, commandOf, recordedAs, moveOf, mr4Of, judgedAs}
+use Rattle.rules.specs.Checks.{unless, named, isWrong, isClash, isReserved, isBarred, codeGood, valueGood, checks}
+use Rattle.rules.specs.Lent.{isThere, aboveLast, effectOf, ledgerTo, refreshedAt, sensedAt, atLevel, entered, failingTo, failingOf}
 use Rattle.rules.proofs.Tests.{both-true}
 use Rattle.rules.proofs.Waking.{awake-reads}
 use Rattle.card.specs.Values.{cardOf}
@@ -29,7 +28,7 @@ use Rattle.ledger.specs.Values.{ledgerOf, deadlineOf}
 use Rattle.ledger.proofs.Deadlines.{none-here}
 use Rattle.bank.specs.Values.{lastOf, shareOf}
 use Rattle.step.specs.declared.single.Single.{Single}
-use Rattle.step.specs.Single.{readBy, effectBy, ledgerBy, viewBy, refusalBy, Ready}
+use Rattle.step.specs.Single.{readAlone, readBy, effectBy, duesBy, ledgerBy, viewBy, refusalBy, Ready}
 use Rattle.step.specs.Ready.{waitsOf, laneOf, hotOf, readyBy, standsOf, readyOf}
 use Rattle.step.proofs.Levels.{Names, named-so}
 use Rattle.step.proofs.Standing.{not-so, Stands, stands-so}
@@ -37,16 +36,16 @@ use Rattle.step.proofs.Within.{quiet}
 use Rattle.step.proofs.Quiet.{look, Quiet, nop-quiet, rd-quiet, wr-quiet, pre-quiet, act-quiet}
 
 -- no check fails
-all-pass : (a b c d e f g h : Bool) (x y z : Option (ℕ × ℕ)) → a ≡ true → b ≡ true → x ≡ none → c ≡ true → d ≡ true → e ≡ true → f ≡ true → g ≡ true → h ≡ true → y ≡ none → z ≡ none
-    → firstOf (unless a 13 ∷ unless b 5 ∷ named 11 x ∷ unless c 6 ∷ unless d 24 ∷ unless e 7 ∷ unless f 8 ∷ unless g 16 ∷ unless h 9 ∷ named 10 y ∷ named 11 z ∷ []) ≡ none
+all-pass : (a b c d e f g h i : Bool) (x y z : Option (ℕ × ℕ)) → a ≡ true → b ≡ true → x ≡ none → c ≡ true → d ≡ true → e ≡ true → f ≡ true → g ≡ true → h ≡ true → i ≡ true → y ≡ none → z ≡ none
+    → firstOf (unless a 13 ∷ unless b 5 ∷ named 11 x ∷ unless c 6 ∷ unless d 24 ∷ unless e 7 ∷ unless f 8 ∷ unless g 16 ∷ unless h 9 ∷ unless i 26 ∷ named 10 y ∷ named 11 z ∷ []) ≡ none
 unfolding firstOf orElse unless named
-all-pass a b c d e f g h x y z pa pb px pc pd pe pf pg ph py pz = rw (pa, pb, px, pc, pd, pe, pf, pg, ph, py, pz)
+all-pass a b c d e f g h i x y z pa pb px pc pd pe pf pg ph pi py pz = rw (pa, pb, px, pc, pd, pe, pf, pg, ph, pi, py, pz)
 
 module _ (d : Delays) (rec : Single) (t p : ℕ) where
   -- the stamp is above the last entry's, and before the deadline
   pub record Timely : Type 0 where
     pub above : rec .last .at < t
-    pub early : t < deadlineOf (rec .card) (rec .share .ledger)
+    pub early : t < deadlineOf (rec .card) (rec .pace) (rec .share .ledger)
 
   abbrev clear : Decoded → Bool
   clear x = readyBy (hotOf x) (laneOf rec (bankOn p)) (waitsOf d rec) d (rec .share .bus) (rec .share .banks .act .at) (getD (rec .share .four .at) 3 0) t
@@ -69,10 +68,10 @@ module _ (d : Delays) (rec : Single) (t p : ℕ) where
     later = omega (arith, stands .there, timely .above)
 
     abbrev beat : Beat
-    beat = beatOf (cardOf (rec .card))
+    beat = duesBy rec
 
     account : (failingTo beat (ledgerOf (rec .share .ledger)) t ≡ none) × (failingOf beat (ledgerTo beat (ledgerOf (rec .share .ledger)) t) ≡ none)
-    account = none-here (rec .card) (rec .share .ledger) t (omega (arith, later)) (timely .early) later
+    account = none-here (rec .card) (rec .pace) (rec .share .ledger) t (omega (arith, later)) (timely .early) later
 
     rises : (aboveLast (lastOf (rec .last)) t && leb (ledgerOf (rec .share .ledger) .at) t) ≡ true
     unfolding aboveLast lastOf ledgerOf
@@ -80,16 +79,16 @@ module _ (d : Delays) (rec : Single) (t p : ℕ) where
 
     clears : (c : rules.Command) → decode p ≡ good c → isCounted c (rec .share .counter) ≡ false
         → stateGood (λ b. getD (rec .share .banks .opened) b false) (rec .share .counter) c ≡ true → is MRW c ≡ false → Quiet d rec 0 t c → Clears
-    unfolding refusalBy checks isWrong isClash isReserved isBarred commandOf recordedAs judgedAs moveOf refreshedAt effectBy effectOf levelAfter atLevel ledgerTo entered ledgerBy ledgerOf viewBy shareOf
+    unfolding refusalBy checks isWrong isClash isReserved isBarred codeGood commandOf recordedAs judgedAs moveOf mr4Of isThere refreshedAt sensedAt effectBy effectOf levelAfter atLevel ledgerTo entered ledgerBy ledgerOf viewBy shareOf
     clears c e uncounted state value q = record {
       taken =
-          all-pass _ _ _ _ _ _ _ _ _ _ _ (s .sound) rises (account .0)
-          (rw here) (rw here) (rw here) (rw here state) (rw here) (rw here good-value) (rw (here, ← s .clocks) (quiet (look d rec 0 t) t _ q)) (rw (here, uncounted) (account .1));
+          all-pass _ _ _ _ _ _ _ _ _ _ _ _ (s .sound) rises (account .0)
+          (rw here) (rw here) (rw here) (rw here state) (rw here) (rw here good-value) (rw here) (rw (here, ← s .clocks) (quiet (look d rec 0 t) t _ q)) (rw (here, uncounted) (account .1));
       uncounted = rw here uncounted;
     }
       where
         here : readBy rec (entry t p) ≡ plain (good c)
-        here = unfold readBy in rw (stands .wakes) (awake-reads (rec .card .sleeps) p c e)
+        here = unfold readBy readAlone in rw (stands .wakes) (awake-reads (rec .card .sleeps) p c e)
 
         good-value : valueGood (cardOf (rec .card)) c ≡ true
         good-value = unfold valueGood in rw value

@@ -9,9 +9,8 @@ use borrow.Author.Tests.{le-leb, lt-leb}
 use Rattle.rules.specs.Lists.{all}
 use Rattle.rules.specs.Whose.{parts}
 use Rattle.rules.specs.Folds.{orElse, firstOf}
-use Rattle.rules.specs.Clock.{beatOf}
 use Rattle.rules.specs.Checks.{Refusal, refusal, unless, named}
-use Rattle.rules.specs.Lent.{Lent, aboveLast, notBehind, Effect, entered, failingOf, failingsTo, ledgerGood, enterRefusal}
+use Rattle.rules.specs.Lent.{Lent, beatOf, aboveLast, notBehind, Effect, entered, failingOf, failingsTo, ledgerGood, enterRefusal}
 use Rattle.rules.proofs.Tests.{some-none}
 use Rattle.rules.proofs.Decided.{or-none}
 use Rattle.bank.specs.Both.{toldOf}
@@ -48,10 +47,10 @@ told-here true true true none at e = or-none (named 11 at)
 -- of a record, where the entry does this to each part's ledger
 module _ (l : Lent) (t : ℕ) (x : ℕ → Effect) where
   abbrev pub toldBy : Option Refusal
-  toldBy = toldOf (l .card .paired) (enterRefusal (x 0) (l .card) (l .share 0 .ledger) t) (enterRefusal (x 1) (l .card) (l .share 1 .ledger) t)
+  toldBy = toldOf (l .card .paired) (enterRefusal (x 0) (l .card) (l .pace) (l .share 0 .ledger) t) (enterRefusal (x 1) (l .card) (l .pace) (l .share 1 .ledger) t)
 
   abbrev failingAt : Option (ℕ × ℕ)
-  failingAt = firstOf (map (λ p. failingOf (beatOf (l .card)) (entered (x p) (beatOf (l .card)) (l .share p .ledger) t)) (parts (l .card)))
+  failingAt = firstOf (map (λ p. failingOf (beatOf (l .card) (l .pace)) (entered (x p) (beatOf (l .card) (l .pace)) (l .share p .ledger) t)) (parts (l .card)))
 
   abbrev good : Bool
   good = all (λ p. ledgerGood (l .card) (l .share p .ledger)) (parts (l .card))

@@ -11,7 +11,7 @@ use Rattle.rules.specs.Checks.{unless}
 use Rattle.rules.specs.Lent.{lentGood, stepRefusal}
 use Rattle.card.specs.declared.Delays.{Delays}
 use Rattle.pins.specs.Fronts.{frontOf}
-use Rattle.ledger.specs.Values.{isNone}
+use Rattle.ledger.specs.Values.{paceOf, isNone}
 use Rattle.bank.specs.declared.Record.{Record}
 use Rattle.bank.specs.Values.{lentOf}
 use Rattle.bank.specs.declared.Share.{Share}
@@ -22,10 +22,9 @@ use Rattle.step.specs.declared.Ran.{Ran}
 use Rattle.step.specs.Runs.{entryAt, takes, ran, behind, runOf}
 use Rattle.step.specs.Parts.{Prepared, onwards}
 use Rattle.step.specs.Single.{singleOf, whole, gone, goneBehind, ranWith, Ready, FitGone, SoFar}
-use Rattle.step.proofs.Kept.{Good}
 use Rattle.step.proofs.Alone.{good}
 use Rattle.step.proofs.Ahead.{good-whole}
-use Rattle.step.proofs.Onward.{run-on, run-stops, Counted, run-counted, run-good, Part, behind-twice, behind-none, from-start, run-then}
+use Rattle.step.proofs.Onward.{run-on, run-stops, Counted, run-counted, Alike, run-good, Part, behind-twice, behind-none, from-start, run-then}
 
 abbrev pub join : Gone → Gone → Gone
 join p r = goneBehind (p .used) (p .commands) (p .refreshes) r
@@ -49,10 +48,10 @@ module _ (d : Delays) (bs : List ℕ) (most : ℕ) (p : Gone) (s : SoFar d bs mo
   abbrev own : Share
   own = p .rec .share
 
-  there : Good (whole own (r .rec)) × (r .rec .card ≡ p .rec .card)
+  there : Alike (whole own (p .rec)) (whole own (r .rec))
   unfolding ranWith
   there =
-      subst (λ (q : Ran). Good (q .rec) × (q .rec .card ≡ p .rec .card)) (sym (part own .is))
+      subst (λ (q : Ran). Alike (whole own (p .rec)) (q .rec)) (sym (part own .is))
       (run-good (part own .count) (whole own (p .rec)) (drop (p .used) bs) (good-whole d (p .rec) (s .sound) arrays))
 
   counted : Counted (drop (p .used) bs) (ranWith own r)
@@ -82,13 +81,13 @@ module _ (d : Delays) (bs : List ℕ) (most : ℕ) (p : Gone) (s : SoFar d bs mo
   }
 
   single-there : r .rec .card .paired ≡ false
-  single-there = rw (there .1) (s .sound .single)
+  single-there = rw (there .card) (s .sound .single)
 
   ready-there : Ready (r .rec) d
   ready-there = record {
     single = single-there;
-    sound = sym (good own (r .rec) single-there) ∙ there .0 .passed;
-    clocks = rw (there .1) (s .sound .clocks);
+    sound = sym (good own (r .rec) single-there) ∙ there .good .passed;
+    clocks = rw (there .card, there .pace) (s .sound .clocks);
   }
 
   so-far-there : SoFar d bs most (join p r)
@@ -117,7 +116,7 @@ module _ (d : Delays) (bs : List ℕ) (most : ℕ) (p : Gone) (s : SoFar d bs mo
       ∙ ap (λ (y : List ℕ). behind (p .used + r .used) (p .commands + r .commands) (p .refreshes + r .refreshes) (runOf k (whole x (r .rec)) y)) (drop-drop (r .used) (p .used) bs))
 
   pub joined-so : Joined d bs most p (join p r)
-  joined-so = record { so-far = so-far-there; same = same-run; arrays = there .0 .arrays .first }
+  joined-so = record { so-far = so-far-there; same = same-run; arrays = there .good .arrays .first }
 
 -- ---- where a run ends
 module _ (bs : List ℕ) (most : ℕ) (r : Ran) where
@@ -145,7 +144,7 @@ unsound rec bs most bad = sym (run-stops rec bs (go (frontOf bs .whole)) most)
     go false = refl
 
 pub ready-of : (rec : Record) (d : Delays) → Prepared rec d → rec .card .paired ≡ false → Ready (singleOf rec) d
-unfolding singleOf lentOf
+unfolding singleOf lentOf paceOf
 ready-of rec d p n = record { single = n; sound = sym (good (rec .second) (singleOf rec) n) ∙ p .good; clocks = p .clocks }
 
 module _ (s : Single) (bs : List ℕ) (most : ℕ) where

@@ -8,25 +8,26 @@ use lib.IntN.{ℤ, pos, negsuc, subℕ}
 use borrow.Author.Tests.{leb-true}
 use Rattle.rules.specs.Levels as levels
 use Rattle.rules.specs.Account.{lpddr3}
-use Rattle.rules.specs.Entries.{Entry, read, whoseOf}
+use Rattle.rules.specs.Entries.{Entry, whoseOf}
 use Rattle.rules.specs.Lent as lent
-use Rattle.rules.specs.Lent.{readIn, commandIn, moveIn, ledgerWith, owingGood, lentGood, stepRefusal, lentAfter}
+use Rattle.rules.specs.Lent.{readIn, commandIn, moveIn, ledgerWith, paceWith, owingGood, lentGood, stepRefusal, lentAfter}
 use Rattle.rules.proofs.Tests.{both-true}
 use Rattle.rules.proofs.Biased.{sub-below, sub-from}
 use Rattle.rules.proofs.Filtered.{IsPart}
 use Rattle.rules.proofs.Sound.{sound-ledger, step-passed, ledger-kept, good-kept}
 use Rattle.card.specs.Values.{cardOf}
 use Rattle.pins.specs.Values.{levelOf}
-use Rattle.ledger.specs.Values.{ledgerOf, stored, levelIn, codeOf}
+use Rattle.ledger.specs.Values.{ledgerOf, stored, levelIn, codeOf, paceIn}
 use Rattle.ledger.proofs.Promises.{code-is}
 use Rattle.bank.specs.declared.Record.{Record}
 use Rattle.bank.specs.Values.{lentOf}
 use Rattle.bank.specs.Both.{ledgersAs}
 use Rattle.bank.proofs.Sizes.{Whole}
 use Rattle.bank.proofs.Shares.{first-is, second-is}
-use Rattle.bank.proofs.Changed.{after-is, good-args, recorded-bank, record-after}
+use Rattle.bank.proofs.Changed.{after-is, good-args, entry-bank, record-after}
 use Rattle.step.specs.Values.{secondWith, recordWith}
 use Rattle.step.proofs.Arrays.{after-whole}
+use Rattle.step.proofs.Paced.{pace-back}
 
 -- what a run keeps of a record
 pub record Good (rec : Record) : Type 0 where
@@ -74,14 +75,15 @@ module _ (rec : Record) (e : Entry) (g : Good rec) (n : stepRefusal (lentOf rec)
       go false m = ap ledgerOf (code-is (rec .second .ledger))
 
   pub lent-with : lentOf (recordWith rec e) ≡ lentAfter (lentOf rec) e
-  unfolding recordWith commandIn moveIn readIn read
+  unfolding recordWith commandIn moveIn readIn
   lent-with =
       let l = lentOf rec in
       let gs = ledgersAs (codeOf (ledgerWith l e 0)) (codeOf (secondWith rec e)) in
-      let args = good-args rec e (commandIn l e) (g .passed) (step-passed l e n .above) (recorded-bank _ _ _ (e .pins)) in
-      record-after rec (whoseOf (l .card) e) (commandIn l e) (moveIn l e) (e .stamp) gs (g .arrays) args
-      ∙ sym (after-is rec e gs (there-back 0 (first-is (l .card))) (unfold secondWith in second-back))
+      let z = paceIn (paceWith l e) in
+      let args = good-args rec e (commandIn l e) (g .passed) (step-passed l e n .above) (entry-bank _ _ e) in
+      record-after rec (whoseOf (l .card) e) (commandIn l e) (moveIn l e) (e .stamp) gs z (g .arrays) args
+      ∙ sym (after-is rec e gs z (there-back 0 (first-is (l .card))) (unfold secondWith in second-back) (pace-back _))
 
   pub good-with : Good (recordWith rec e)
   unfolding recordWith
-  good-with = record { passed = rw lent-with (good-kept (lentOf rec) e n); arrays = after-whole rec _ _ _ _ _ (g .arrays) }
+  good-with = record { passed = rw lent-with (good-kept (lentOf rec) e n); arrays = after-whole rec _ _ _ _ _ _ (g .arrays) }

@@ -5,11 +5,11 @@ use mathlib.Core.Bool.{true, cond}
 use mathlib.Core.Option.{Option, none}
 use Rattle.rules.specs.Units.{Delays}
 use Rattle.rules.specs.Whose.{Whose, partOf}
-use Rattle.rules.specs.Levels.{Read, readAs}
+use Rattle.rules.specs.Levels.{Read}
 use Rattle.rules.specs.Delays.{Answers}
-use Rattle.rules.specs.Clock.{beatOf}
+use Rattle.rules.specs.Entries.{Body, Entry, readBody, read, whoseBody, whoseOf, partIn}
 use Rattle.rules.specs.Checks.{Refusal}
-use Rattle.rules.specs.Lent.{Ledger, Share, hasPart, effectOf, entered}
+use Rattle.rules.specs.Lent.{Ledger, Share, beatOf, hasPart, ownIn, readIn, effectOf, entered}
 use Rattle.rules.proofs.Decided.{orElse-none}
 use Rattle.card.specs.Values.{cardOf}
 use Rattle.pins.specs.Values as pins
@@ -29,11 +29,20 @@ use Rattle.step.specs.Parts.{ruledRefusal, readOn, effectAs, ledgerAs, r
 use Rattle.step.proofs.Elevens.{toldBy}
 use Rattle.step.proofs.Split.{effectsBy, ruledBy, ruling-is}
 
--- the pins are read at the level of the part that judges them
-pub read-so : (rec : Record) (w : selects.Whose) (p : ℕ) →
-    readAs (rec .card .sleeps) (rec .card .paired) (pins.levelOf (shareAt rec (partOf (pins.whoseOf w)) .ledger .level)) p ≡ readOn (lentOf rec) (pins.whoseOf w) p
-unfolding readOn lentOf shareOf ledgerOf cardOf
-read-so rec w p = ap (λ (o : Share). readAs (rec .card .sleeps) (rec .card .paired) (o .ledger .level) p) (sym (unfold lentOf in share-in rec (partOf (pins.whoseOf w)) (part-low w)))
+-- an entry, by what its body is read as
+pub whose-here : (rec : Record) (e : Entry) (w : Whose) → w ≡ whoseBody (rec .card .paired) (e .body) → whoseOf (lentOf rec .card) e ≡ w
+unfolding whoseOf lentOf cardOf
+whose-here rec e w h = sym h
+
+pub read-here : (rec : Record) (e : Entry) (w : Whose) (x : Read) → whoseOf (lentOf rec .card) e ≡ w → x ≡ readOn (lentOf rec) w (e .body) → readIn (lentOf rec) e ≡ x
+unfolding readIn read ownIn partIn readOn
+read-here rec e w x h k = ap (λ (o : Whose). readOn (lentOf rec) o (e .body)) h ∙ sym k
+
+-- it is read at the level of the part that judges it
+pub read-so : (rec : Record) (w : selects.Whose) (b : Body) →
+    readBody (cardOf (rec .card)) (pins.levelOf (shareAt rec (partOf (pins.whoseOf w)) .ledger .level)) b ≡ readOn (lentOf rec) (pins.whoseOf w) b
+unfolding readOn lentOf shareOf ledgerOf
+read-so rec w b = ap (λ (o : Share). readBody (cardOf (rec .card)) (o .ledger .level) b) (sym (unfold lentOf in share-in rec (partOf (pins.whoseOf w)) (part-low w)))
 
 pub own-counter : (rec : Record) (w : selects.Whose) → shareAt rec (partOf (pins.whoseOf w)) .counter ≡ lentOf rec .share (partOf (pins.whoseOf w)) .counter
 unfolding shareOf
@@ -56,7 +65,7 @@ module _ (d : Delays) (rec : Record) (w : selects.Whose) (x : Read) (t : ℕ) (p
   own-is : lentOf rec .share (partOf whose) ≡ shareOf own
   own-is = share-in rec (partOf whose) (part-low w)
 
-  module _ (entered-so : EnteredBoth (ledgersIn rec) (rec .card) whose t (effectOf x (own .counter) (pins.levelOf (own .ledger .level))) p)
+  module _ (entered-so : EnteredBoth (ledgersIn rec) (rec .pace) (rec .card) whose t (effectOf x (own .counter)) p)
       (answer : refusalOf (y .answer) ≡ ruledRefusal (cardOf (rec .card)) (lastOf (rec .last)) d (shareOf own) theirs x t (paid.refusalOf (p .answer)))
       (ledgers : y .ledgers ≡ p .ledgers) where
     paid-told : paid.refusalOf (p .answer) ≡ toldBy (lentOf rec) t (effectsBy d (lentOf rec) whose x t (shareOf own))
@@ -76,9 +85,9 @@ module _ (d : Delays) (rec : Record) (w : selects.Whose) (x : Read) (t : ℕ) (p
     unfolding ruledRefusal
     nothing-told n = orElse-none _ _ (orElse-none _ _ (sym answer ∙ n) .1) .1
 
-    ledger-is : (q : ℕ) → entered (effectsBy d (lentOf rec) whose x t (shareOf own) q) (beatOf (lentOf rec .card)) (lentOf rec .share q .ledger) t ≡ ledgerAs (lentOf rec) whose x t q
+    ledger-is : (q : ℕ) → entered (effectsBy d (lentOf rec) whose x t (shareOf own) q) (beatOf (lentOf rec .card) (lentOf rec .pace)) (lentOf rec .share q .ledger) t ≡ ledgerAs (lentOf rec) whose x t q
     unfolding ledgerAs effectAs
-    ledger-is q = ap (λ (o : Share). entered (effectsBy d (lentOf rec) whose x t o q) (beatOf (lentOf rec .card)) (lentOf rec .share q .ledger) t) (sym own-is)
+    ledger-is q = ap (λ (o : Share). entered (effectsBy d (lentOf rec) whose x t o q) (beatOf (lentOf rec .card) (lentOf rec .pace)) (lentOf rec .share q .ledger) t) (sym own-is)
 
     first-so : refusalOf (y .answer) ≡ none → ledgerOf (y .ledgers .first) ≡ ledgerAs (lentOf rec) whose x t 0
     unfolding lentOf shareIn shareOf ledgerOf cardOf ledgersIn

@@ -21,6 +21,7 @@ use Rattle.step.specs.declared.Ran.{Ran}
 use Rattle.step.specs.Values.{recordWith}
 use Rattle.step.specs.Runs.{entryAt, takes, commandsBy, refreshesBy, ran, behind, runOf}
 use Rattle.step.proofs.Answers.{none-so}
+use Rattle.step.proofs.Paced.{pins-pace}
 use Rattle.step.proofs.Kept.{Good, good-with}
 
 -- the bytes from a place on, as a part of a slice is read
@@ -98,12 +99,19 @@ run-counted = along (λ n rec bs r. Counted bs r)
       refreshes = omega (arith, p .refreshes, refreshes-low rec bs);
     })
 
--- ---- its record
-pub run-good : (n : ℕ) (rec : Record) (bs : List ℕ) → Good rec → Good (runOf n rec bs .rec) × (runOf n rec bs .rec .card ≡ rec .card)
+-- ---- its record: sound again, of the same card and pace
+pub record Alike (before then : Record) : Type 0 where
+  pub good : Good then
+  pub card : then .card ≡ before .card
+  pub pace : then .pace ≡ before .pace
+
+pub run-good : (n : ℕ) (rec : Record) (bs : List ℕ) → Good rec → Alike rec (runOf n rec bs .rec)
 unfolding recordWith recordAfter
-run-good = along (λ n rec bs r. Good rec → Good (r .rec) × (r .rec .card ≡ rec .card))
-    (λ n rec bs g. (g, refl))
-    (λ n rec bs e r p g. p (good-with rec (entryAt bs) g (taken-if rec bs e .1)))
+run-good = along (λ n rec bs r. Good rec → Alike rec (r .rec))
+    (λ n rec bs g. record { good = g; card = refl; pace = refl })
+    (λ n rec bs e r p g.
+    let k = p (good-with rec (entryAt bs) g (taken-if rec bs e .1)) in
+    record { good = k .good; card = k .card; pace = k .pace ∙ pins-pace rec _ _ })
 
 -- ---- whole entries, at most so many, and none of them refused
 pub record Part (most : ℕ) (rec : Record) (bs : List ℕ) (r : Ran) : Type 0 where

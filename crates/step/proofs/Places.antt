@@ -8,13 +8,11 @@ use Rattle.rules.specs.Commands.{NOP, code, bare, carries, kindOf, bankOf, apOf
 use Rattle.rules.specs.Past.{registerAfter, bankAt, isCounted}
 use Rattle.rules.specs.Levels.{Level, awake, stays, isFall, risesFrom, levelAfter, plain}
 use Rattle.rules.specs.Account.{Beat}
-use Rattle.rules.specs.Clock.{beatOf}
 use Rattle.rules.specs.Pins.{Decoded, good, wrongBits, reserved, decode}
-use Rattle.rules.specs.Entries.{entry, commandOf, recordedAs, moveOf}
+use Rattle.rules.specs.Entries.{entry, commandOf, recordedAs, moveOf, mr4Of}
 use Rattle.rules.specs.Lent as lent
-use Rattle.rules.specs.Lent.{effectOf, ledgerTo, refreshedAt, atLevel, entered}
+use Rattle.rules.specs.Lent.{isThere, effectOf, ledgerTo, refreshedAt, sensedAt, atLevel, entered}
 use Rattle.rules.proofs.Ledgers.{moved-twice}
-use Rattle.card.specs.Values.{cardOf}
 use Rattle.pins.specs.Values.{levelOf}
 use Rattle.pins.specs.Places.{bankOn, apOn}
 use Rattle.ledger.specs.Values.{ledgerOf, levelIn, codeOf}
@@ -26,9 +24,10 @@ use Rattle.bank.specs.declared.Bus.{Bus}
 use Rattle.bank.specs.declared.Four.{Four}
 use Rattle.bank.specs.declared.Share.{Share}
 use Rattle.step.specs.declared.single.Single.{Single}
-use Rattle.step.specs.Single.{readBy, effectBy, ledgerBy, singleWith}
+use Rattle.step.specs.Single.{readAlone, readBy, effectBy, duesBy, ledgerBy, singleWith}
 use Rattle.step.specs.Ready.{Hot, Nop, Act, Rd, Wr, Pre, Cold, hotOf}
 use Rattle.step.specs.Quick.{hotCount, nowOf, EndArgs}
+use Rattle.step.proofs.Paced.{single-pace}
 use Rattle.step.proofs.Levels.{Names, named-so, awake-hot}
 use Rattle.step.proofs.Standing.{Stands, moved-back}
 
@@ -125,7 +124,7 @@ fourThen Cold t x = x
 
 module _ (rec : Single) (banks : Banks) (bus : Bus) (four : Four) (u t p : ℕ) where
   abbrev beat : Beat
-  beat = beatOf (cardOf (rec .card))
+  beat = duesBy rec
 
   -- the record so far
   abbrev now : Single
@@ -136,6 +135,7 @@ module _ (rec : Single) (banks : Banks) (bus : Bus) (four : Four) (u t p : ℕ) 
   then h g = record {
     card = rec .card;
     last = onceAt t;
+    pace = rec .pace;
     share = record {
       mr2 = rec .share .mr2;
       counter = rec .share .counter;
@@ -195,17 +195,17 @@ module _ (rec : Single) (banks : Banks) (bus : Bus) (four : Four) (u t p : ℕ) 
     wakes-now = ap (λ (l : Level). levelOf (levelIn l)) (stands .wakes) ∙ (unfold levelIn levelOf in refl)
 
     reads : NotCold (hotOf (decode p)) → readBy now (entry t p) ≡ plain (decode p)
-    unfolding readBy
+    unfolding readBy readAlone
     reads h = rw wakes-now (awake-hot (rec .card .sleeps) p h)
 
     pub taken-so : NotCold (hotOf (decode p)) → (singleWith now (entry t p) ≡ nowOf rec (banksThen (hotOf (decode p)) (bankOn p) (apOn p) t (rec .share .mr2) banks)
         (busThen (hotOf (decode p)) t (rec .share .mr2) bus) (fourThen (hotOf (decode p)) t four) t) × (cond (is NOP (recordedAs (readBy now (entry t p)))) 0 1 ≡ hotCount (hotOf (decode p)))
-    unfolding singleWith effectBy effectOf recordedAs moveOf levelAfter ledgerBy ledgerOf entered refreshedAt atLevel ledgerTo
+    unfolding singleWith effectBy effectOf recordedAs moveOf mr4Of isThere levelAfter ledgerBy ledgerOf entered refreshedAt sensedAt atLevel ledgerTo
     taken-so h =
         let q = plain-so (decode p) h in (
-          rw (reads h, q .0) (ap onward (after-so (decode p) h (named-so p _ refl) _) ∙ ap (then (hotOf (decode p))) ledger-so),
+          rw (single-pace now t p, reads h, q .0) (ap onward (after-so (decode p) h (named-so p _ refl) _) ∙ ap (then (hotOf (decode p))) ledger-so),
           rw (reads h) (q .1),
         )
       where
         onward : Share → Single
-        onward x = record { card = rec .card; last = onceAt t; share = x }
+        onward x = record { card = rec .card; last = onceAt t; pace = rec .pace; share = x }

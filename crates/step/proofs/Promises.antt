@@ -1,4 +1,4 @@
--- The promise of each public function determines its answer and the record that it leaves; and what those of `step` and `run` claim.
+-- The promise of each public function determines its answer and the record that it leaves; and what those of `step`, `sense` and `run` claim.
 use mathlib.Core.Path.{_≡_, refl, ap, sym, _∙_}
 use mathlib.Core.Bool.{cond}
 use mathlib.Core.Option.{Option, none, some}
@@ -12,11 +12,12 @@ use Rattle.bank.specs.declared.Ledgers.{Ledgers}
 use Rattle.bank.specs.declared.Record.{Record}
 use Rattle.bank.specs.Both.{ledgersIn, ledgersAs}
 use Rattle.step.specs.declared.Answer.{Answer}
-use Rattle.step.specs.declared.Answer.the-variants.{Taken, BadRecord, Early, Overdue, WrongBits, Clash, Reserved, State, Barred, Value, TooSoon}
+use Rattle.step.specs.declared.Answer.the-variants.{Taken, BadRecord, Early, Overdue, WrongBits, Clash, Reserved, State, Barred, Value, Code, TooSoon}
 use Rattle.step.specs.declared.Stepped.{Stepped}
 use Rattle.step.specs.Values.{refusalOf, recordBy, Left}
 use Rattle.step.proofs.account.as_told as as-told
 use Rattle.step.proofs.offering.step as step
+use Rattle.step.proofs.offering.sense as sense
 use Rattle.step.proofs.turns.run as run
 
 -- the case that has these numbers
@@ -30,7 +31,8 @@ numbered x =
     cond (eqb (x .number) 7) Reserved (
     cond (eqb (x .number) 8) State (
     cond (eqb (x .number) 16) Barred (
-    cond (eqb (x .number) 9) Value (TooSoon (x .rule) (x .cycle))))))))))
+    cond (eqb (x .number) 9) Value (
+    cond (eqb (x .number) 26) Code (TooSoon (x .rule) (x .cycle)))))))))))
 
 abbrev answerOf : Option Refusal → Answer
 answerOf none = Taken
@@ -48,6 +50,7 @@ answer-is Reserved = refl
 answer-is State = refl
 answer-is Barred = refl
 answer-is Value = refl
+answer-is Code = refl
 answer-is (TooSoon q t) = refl
 
 -- two answers with the same numbers are one
@@ -74,6 +77,15 @@ step-claims κs a r e = fact-of _
 
 pub step-determined : Determined step.ended step-says
 step-determined = determined step.ended step-says step-claims (λ κs a r r′ ws ws′ p p′. (one-stepped _ _ _ r r′ p p′, refl))
+
+abbrev pub sense-says : Promise sense.ended
+sense-says w = sense.clauses (w .𝓤) (w .H) (w .𝓖 .A) (w .𝓜 .mem) (w .𝓡 .run)
+
+abbrev pub sense-claims : Plainly sense.ended sense-says
+sense-claims κs a r e = fact-of _
+
+pub sense-determined : Determined sense.ended sense-says
+sense-determined = determined sense.ended sense-says sense-claims (λ κs a r r′ ws ws′ p p′. (one-stepped _ _ _ r r′ p p′, refl))
 
 abbrev as-told-says : Promise as-told.ended
 as-told-says w = as-told.clauses (w .𝓤) (w .H) (w .𝓖 .A) (w .𝓜 .mem) (w .𝓡 .run)

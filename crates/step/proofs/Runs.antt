@@ -1,5 +1,6 @@
 -- A run of steps over a list of entries, from a fresh record, goes through exactly when the rules hold, and judges each entry on the way as the list does. It is
--- said of any function that keeps the promise of `step`; and what keeps the promise of `run` is such steps. Both promises are read off the generated contracts.
+-- said of any function that keeps the promise of `step` at pins and that of `sense` at a temperature; and what keeps the promise of `run` is such steps. The
+-- promises are read off the generated contracts.
 use Prim.Native.Nat.{ℕ, zero, suc}
 use mathlib.Core.Path.{_≡_, refl, ap, sym, _∙_}
 use mathlib.Core.Logic.{_↔_}
@@ -12,9 +13,9 @@ use denote.Ref.{now}
 use denote.Triple.Clauses.{AtExit, atExit}
 use denote.Triple.Entry.{Args}
 use Rattle.rules.specs.Ranges.{cardGood}
-use Rattle.rules.specs.Entries.{Entry, pastOf}
+use Rattle.rules.specs.Entries.{Body, pins, mr4, Entry, entry, sensing, pastOf}
 use Rattle.rules.specs.Checks.{Refusal, entryRefusal}
-use Rattle.rules.specs.Lent.{Lent, ledgerWith, stepRefusal, lentAfter, standing, fresh, AllTaken}
+use Rattle.rules.specs.Lent.{Lent, stepRefusal, lentAfter, standing, fresh, AllTaken}
 use Rattle.rules.proofs.Taken.{unmoved}
 use Rattle.rules.proofs.StepByList.{step-unmoved}
 use Rattle.rules.proofs.Sound.{step-passed}
@@ -22,18 +23,18 @@ use Rattle.rules.proofs.Steps.{runSteps, AllEntries, entries-taken, runs-iff}
 use Rattle.card.specs.declared.Card.{Card}
 use Rattle.card.specs.Values.{cardOf}
 use Rattle.pins.specs.Fronts.{frontOf}
-use Rattle.ledger.specs.Values.{ledgerOf, isNone, unlessRefused}
+use Rattle.ledger.specs.Values.{isNone, unlessRefused}
 use Rattle.bank.specs.declared.Record.{Record}
 use Rattle.bank.specs.Values.{lentOf, freshOf}
-use Rattle.bank.specs.Both.{ledgersIn}
 use Rattle.bank.proofs.Beginning.{fresh-lent}
 use Rattle.step.specs.declared.Ran.{Ran}
 use Rattle.step.specs.declared.Stepped.{Stepped}
-use Rattle.step.specs.Values.{refusalOf, secondWith, recordBy, recordWith}
+use Rattle.step.specs.Values.{refusalOf, Left}
 use Rattle.step.specs.Runs.{entryAt, takes, commandsBy, refreshesBy, ran, behind, runOf}
-use Rattle.step.proofs.Leaves.{ledgers-coded}
-use Rattle.step.proofs.Promises.{step-claims, run-claims}
+use Rattle.step.proofs.Leaves.{left-record}
+use Rattle.step.proofs.Promises.{step-claims, sense-claims, run-claims}
 use Rattle.step.proofs.offering.step as step
+use Rattle.step.proofs.offering.sense as sense
 use Rattle.step.proofs.turns.run as public
 
 -- each entry in turn; none at the first refusal
@@ -48,10 +49,13 @@ steps f (suc n) r bs =
     let e = entryAt bs in
     cond (frontOf bs .whole && isNone (refusalOf (f r e .answer))) (behind 10 (commandsBy r e) (refreshesBy r e) (steps f n (f r e .rec) (drop 10 bs))) (ran r 0 0 0)
 
-abbrev pub Keeps : (Record → Entry → Stepped) → Type 0
-Keeps f = (r : Record) (e : Entry) →
-    let args : Args step.signature tt = (r, (e .stamp, (e .pins, tt))) in
-    step-claims tt args (f r e) (atExit step.ended tt args (tt, (tt, (tt, tt)))) .claim
+pub record Keeps (f : Record → Entry → Stepped) : Type 0 where
+  pub at-pins : (r : Record) (t p : ℕ) →
+      let args : Args step.signature tt = (r, (t, (p, tt))) in
+      step-claims tt args (f r (entry t p)) (atExit step.ended tt args (tt, (tt, (tt, tt)))) .claim
+  pub at-mr4 : (r : Record) (t v : ℕ) →
+      let args : Args sense.signature tt = (r, (t, (v, tt))) in
+      sense-claims tt args (f r (sensing t v)) (atExit sense.ended tt args (tt, (tt, (tt, tt)))) .claim
 
 -- the run through these entries, and then any one entry more. `stands` shuts out a step that leaves the record still, and `next`, at every list of entries, one
 -- whose later steps nod through
@@ -65,7 +69,14 @@ neither : {A : Type 0} (b : Bool) (x y z : A) → cond (b && false) x z ≡ cond
 neither true x y z = refl
 neither false x y z = refl
 
-module _ (f : Record → Entry → Stepped) (keeps : Keeps f) where
+module _ (f : Record → Entry → Stepped) (kept : Keeps f) where
+  keeps : (r : Record) (e : Entry) → Left (stepRefusal (lentOf r) e) r e (f r e)
+  keeps r e = go (e .stamp) (e .body)
+    where
+      go : (t : ℕ) (b : Body) → let x : Entry = record { stamp = t; body = b } in Left (stepRefusal (lentOf r) x) r x (f r x)
+      go t (pins p) = kept .at-pins r t p
+      go t (mr4 v) = kept .at-mr4 r t v
+
   after-it : (r : Record) (e : Entry) → stepRefusal (lentOf r) e ≡ none → lentOf (f r e .rec) ≡ lentAfter (lentOf r) e
   unfolding unlessRefused
   after-it r e n = rw n at (keeps r e .lent (step-passed (lentOf r) e n .good))
@@ -88,15 +99,6 @@ module _ (f : Record → Entry → Stepped) (keeps : Keeps f) where
           ap (λ (o : Option Record). Option·map lentOf o) off ∙ sym there
 
   -- ---- over bytes: what keeps the promise of `run` is these steps, to the bit
-  left-record : (r : Record) (e : Entry) → stepRefusal (lentOf r) e ≡ none → f r e .rec ≡ recordWith r e
-  unfolding unlessRefused recordWith ledgersIn
-  left-record r e n =
-      let next = f r e .rec in
-      let is : next ≡ recordBy r e (ledgersIn next) = rw n at (keeps r e .is) in
-      let first : ledgerOf (next .first .ledger) ≡ ledgerWith (lentOf r) e 0 = rw n at (keeps r e .first) in
-      let second : ledgerOf (next .second .ledger) ≡ secondWith r e = rw n at (keeps r e .second) in
-      is ∙ ap (recordBy r e) (ledgers-coded (ledgersIn next) _ _ first second)
-
   run-is : (n : ℕ) (r : Record) (bs : List ℕ) → runOf n r bs ≡ steps f n r bs
   unfolding runOf steps
   run-is zero r bs = refl
@@ -104,7 +106,7 @@ module _ (f : Record → Entry → Stepped) (keeps : Keeps f) where
     where
       go : (o : Option Refusal) → stepRefusal (lentOf r) (entryAt bs) ≡ o → runOf n (f r (entryAt bs) .rec) (drop 10 bs) ≡ steps f n (f r (entryAt bs) .rec) (drop 10 bs) →
           runOf (suc n) r bs ≡ steps f (suc n) r bs
-      go none e ih = unfold runOf steps takes isNone in rw (keeps r (entryAt bs) .told, e, ← ih, left-record r (entryAt bs) e)
+      go none e ih = unfold runOf steps takes isNone in rw (keeps r (entryAt bs) .told, e, ← ih, left-record (keeps r (entryAt bs)) e)
       go (some x) e ih = unfold runOf steps takes isNone in rw (keeps r (entryAt bs) .told, e) (neither (frontOf bs .whole) _ _ _)
 
   pub by-steps : (κs : Lfts (public.signature .lifetimes)) (a : Args public.signature κs) (r : Ran) (x : AtExit public.ended κs) → run-claims κs a r x .claim →

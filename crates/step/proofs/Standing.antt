@@ -7,7 +7,6 @@ use native.Mathlib.Omega.{arith}
 use borrow.Author.Tests.{le-leb, leb-true, eqb-true}
 use Rattle.rules.specs.Levels.{Level, awake, powerDown, selfRefresh, deep, depth, sameLevel}
 use Rattle.rules.specs.Folds.{orElse, firstOf}
-use Rattle.rules.specs.Clock.{beatOf}
 use Rattle.rules.specs.Checks.{unless, named}
 use Rattle.rules.specs.Lent.{ledgerGood, ledgerTo, moveRefusal, movedOn}
 use Rattle.rules.proofs.Tests.{both-true}
@@ -15,9 +14,10 @@ use Rattle.rules.proofs.Sound.{sound-ledger, moved-good}
 use Rattle.card.specs.Values.{cardOf}
 use Rattle.pins.specs.Values.{levelOf}
 use Rattle.ledger.specs.declared.Ledger.{Ledger}
-use Rattle.ledger.specs.Values.{ledgerOf, codeOf}
+use Rattle.ledger.specs.Values.{ledgerOf, codeOf, paceOf}
 use Rattle.ledger.proofs.Deadlines.{sound, none-failing}
 use Rattle.step.specs.declared.single.Single.{Single}
+use Rattle.step.specs.Single.{duesBy}
 use Rattle.step.specs.Ready.{standsOf}
 use Rattle.step.specs.Quick.{EndArgs}
 use Rattle.step.proofs.Kept.{ledger-back}
@@ -51,13 +51,13 @@ module _ (rec : Single) (t : ℕ) (a : EndArgs rec t) where
   abbrev g : Ledger
   g = rec .share .ledger
 
-  pub unrefused : moveRefusal (cardOf (rec .card)) (ledgerOf g) t ≡ none
+  pub unrefused : moveRefusal (cardOf (rec .card)) (paceOf (rec .pace)) (ledgerOf g) t ≡ none
   unfolding moveRefusal firstOf orElse unless named ledgerOf
-  unrefused = rw (sound (rec .card) g t (a .later) (a .early) .good, le-leb (g .at) t (a .later), none-failing (rec .card) g t (a .later) (a .early))
+  unrefused = rw (sound (rec .card) (rec .pace) g t (a .later) (a .early) .good, le-leb (g .at) t (a .later), none-failing (rec .card) (rec .pace) g t (a .later) (a .early))
 
   -- is stored as it is
-  pub moved-back : ledgerOf (codeOf (ledgerTo (beatOf (cardOf (rec .card))) (ledgerOf g) t)) ≡ ledgerTo (beatOf (cardOf (rec .card))) (ledgerOf g) t
+  pub moved-back : ledgerOf (codeOf (ledgerTo (duesBy rec) (ledgerOf g) t)) ≡ ledgerTo (duesBy rec) (ledgerOf g) t
   moved-back =
-      let there = ledgerTo (beatOf (cardOf (rec .card))) (ledgerOf g) t in
-      let good : ledgerGood (cardOf (rec .card)) there ≡ true = unfold movedOn in moved-good (cardOf (rec .card)) (ledgerOf g) t unrefused in
+      let there = ledgerTo (duesBy rec) (ledgerOf g) t in
+      let good : ledgerGood (cardOf (rec .card)) there ≡ true = unfold movedOn in moved-good (cardOf (rec .card)) (paceOf (rec .pace)) (ledgerOf g) t unrefused in
       ledger-back there (sound-ledger (cardOf (rec .card)) there good .owing)

@@ -54,7 +54,7 @@ pub record Saw (d : Delays) (rec : Single) (v : List ℕ) (most : ℕ) (banks : 
   pub kind : hot ≡ hotOf (decode (f .pins))
   pub bank : b ≡ bankOn (f .pins)
   pub waits : w ≡ waitsOf d rec
-  pub deadline : end ≡ deadlineOf (rec .card) (rec .share .ledger)
+  pub deadline : end ≡ deadlineOf (rec .card) (rec .pace) (rec .share .ledger)
   pub ready : clear ≡ readyBy hot (laneOf (nowOf rec banks bus four u) b) w d bus (banks .act .at) (getD (four .at) 3 0) (f .stamp)
   pub passes : ok ≡ (f .whole && ((ltb u (f .stamp) && ltb (f .stamp) end) && clear))
 
@@ -81,8 +81,8 @@ module _ {d : Delays} {rec : Single} {v : List ℕ} {most : ℕ} {banks : Banks}
       let wakes : before .level ≡ awake = unfold ledgerOf in stands .wakes in
       rw (eq-eqb u u refl, le-leb (u - (numberOf before + countedTo before u)) u (omega arith), wakes) (unfold levelIn levelOf sameLevel depth in refl)
 
-  same-end : deadlineOf (rec .card) (now .share .ledger) ≡ deadlineOf (rec .card) (rec .share .ledger)
-  same-end = same-deadline (rec .card) (rec .share .ledger) u (g .ends .later) (g .ends .early)
+  same-end : deadlineOf (rec .card) (rec .pace) (now .share .ledger) ≡ deadlineOf (rec .card) (rec .pace) (rec .share .ledger)
+  same-end = same-deadline (rec .card) (rec .pace) (rec .share .ledger) u (g .ends .later) (g .ends .early)
 
   goes : goesOn d now f ≡ ok
   unfolding goesOn readyOf

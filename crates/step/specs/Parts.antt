@@ -8,20 +8,21 @@ use lib.Dec.{leb, eqb}
 use lib.ListN.{drop}
 use Rattle.rules.specs.Lists.{all}
 use Rattle.rules.specs.Card.{Card}
-use Rattle.rules.specs.Units.{Delays, delaysOf}
+use Rattle.rules.specs.Units.{Delays}
+use Rattle.rules.specs.Heat.{delaysAt}
 use Rattle.rules.specs.Commands.{Command}
 use Rattle.rules.specs.Whose.{Whose, isOf, partOf, other, parts}
-use Rattle.rules.specs.Levels.{Read, readAs}
+use Rattle.rules.specs.Levels.{Read}
 use Rattle.rules.specs.States.{stateGood}
 use Rattle.rules.specs.Folds.{orElse, firstOf, firstBroken}
 use Rattle.rules.specs.Delays.{Answers, lookBoth, delayRules}
-use Rattle.rules.specs.Clock.{beatOf}
-use Rattle.rules.specs.Entries.{recordedAs, moveOf, judgedAs}
-use Rattle.rules.specs.Checks.{Refusal, unless, named, isWrong, isClash, isReserved, isBarred, valueGood}
-use Rattle.rules.specs.Lent.{Ledger, Share, Lent, lookIn, answersIn, aboveLast, notBehind, hasPart, Effect, effectOf, entered, failingOf, failingsTo, ledgerGood, lentGood}
-use Rattle.card.specs.Values.{clocksOf}
+use Rattle.rules.specs.Entries.{Body, Entry, readBody, whoseOf, recordedAs, moveOf, mr4Of, judgedAs}
+use Rattle.rules.specs.Checks.{Refusal, unless, named, isWrong, isClash, isReserved, isBarred, codeGood, valueGood}
+use Rattle.rules.specs.Lent.{Ledger, Share, Lent, beatOf, numberOf, lookIn, answersIn, aboveLast, notBehind, hasPart, readIn, Effect, effectOf, entered, failingOf, failingsTo, paceBy, ledgerGood, lentGood, stepRefusal}
+use Rattle.card.specs.Values.{cardOf, clocksOf}
 use Rattle.card.specs.declared.Delays as code
-use Rattle.ledger.specs.Values.{ledgerOf}
+use Rattle.ledger.specs.Values.{ledgerOf, paceOf, paceIn}
+use Rattle.ledger.specs.declared.Pace.{Pace}
 use Rattle.bank.specs.declared.Record.{Record}
 use Rattle.bank.specs.Values.{lentOf}
 use Rattle.bank.specs.After.{Changed}
@@ -29,13 +30,13 @@ use Rattle.bank.specs.Both.{effectFor}
 use Rattle.step.specs.declared.Ran.{Ran}
 use Rattle.step.specs.declared.Stepped.{Stepped}
 use Rattle.step.specs.declared.offering.Ruling.{Ruling}
-use Rattle.step.specs.Values.{refusalOf}
+use Rattle.step.specs.Values.{refusalOf, Left}
 use Rattle.step.specs.Runs.{behind, runOf}
 
--- a record that 13 lets pass, and the delays of its card
+-- a record that 13 lets pass, and the delays of its card at its temperature
 pub record Prepared (rec : Record) (delays : code.Delays) : Type 0 where
   pub good : lentGood (lentOf rec) ≡ true
-  pub clocks : clocksOf delays ≡ delaysOf (lentOf rec .card)
+  pub clocks : clocksOf delays ≡ delaysAt (lentOf rec .card) (lentOf rec .pace .mr4)
 
 -- ---- the stamp and the account
 -- 13 of the ledgers, 5, and 11 below the stamp
@@ -52,7 +53,7 @@ unfoldable pub openingOf : (rises : Bool) → (stamp : ℕ) → Option Refusal �
 openingOf rises t none = unless rises 5
 openingOf rises t (some x) = cond (eqb (x .number) 11) (orElse (unless rises 5) (cond (leb t (x .cycle)) none (some x))) (some x)
 
--- ---- 6 to 10, 16 and 24
+-- ---- 6 to 10, 16, 24 and 26
 unfoldable pub commandRefusal : Card → (ℕ → Bool) → (counter : ℕ) → Command → Option Refusal
 commandRefusal card isOpen n c = firstOf (unless (stateGood isOpen n c) 8 ∷ unless (valueGood card c) 9 ∷ [])
 
@@ -64,7 +65,8 @@ readingRefusal card isOpen n r =
     unless (not (isReserved r)) 7 ∷
     unless (stateGood isOpen n (judgedAs r)) 8 ∷
     unless (not (isBarred r)) 16 ∷
-    unless (valueGood card (judgedAs r)) 9 ∷ []
+    unless (valueGood card (judgedAs r)) 9 ∷
+    unless (codeGood r) 26 ∷ []
     )
 
 -- of a part, by its share and what the other one answers
@@ -78,23 +80,21 @@ unfoldable pub ruledRefusal : Card → (last : Option ℕ) → Delays → Share 
 ruledRefusal card last delays s theirs r t told = orElse (openingOf (aboveLast last t) t told) (orElse (judgedRefusal card delays s theirs r t) told)
 
 -- ---- all of them, of an entry that is read so
-unfoldable pub readOn : Lent → Whose → (pins : ℕ) → Read
-readOn l w p = readAs (l .card .sleeps) (l .card .paired) (l .share (partOf w) .ledger .level) p
+unfoldable pub readOn : Lent → Whose → Body → Read
+readOn l w b = readBody (l .card) (l .share (partOf w) .ledger .level) b
 
 unfoldable pub effectAs : Lent → Whose → Read → ℕ → Effect
-effectAs l w r p =
-    let own = l .share (partOf w) in
-    effectFor (isOf p w) (effectOf r (own .counter) (own .ledger .level)) (l .share p .ledger .level)
+effectAs l w r p = effectFor (isOf p w) (effectOf r (l .share (partOf w) .counter))
 
 -- each part's ledger at the stamp
 unfoldable pub ledgerAs : Lent → Whose → Read → (stamp : ℕ) → ℕ → Ledger
-ledgerAs l w r t p = entered (effectAs l w r p) (beatOf (l .card)) (l .share p .ledger) t
+ledgerAs l w r t p = entered (effectAs l w r p) (beatOf (l .card) (l .pace)) (l .share p .ledger) t
 
 unfoldable pub rulingRefusal : Delays → Lent → Whose → Read → (stamp : ℕ) → Option Refusal
 rulingRefusal delays l w r t =
     orElse (openingRefusal l t)
     (orElse (judgedRefusal (l .card) delays (l .share (partOf w)) (answersIn l (other (partOf w))) r t)
-    (named 11 (firstOf (map (λ p. failingOf (beatOf (l .card)) (ledgerAs l w r t p)) (parts (l .card))))))
+    (named 11 (firstOf (map (λ p. failingOf (beatOf (l .card) (l .pace)) (ledgerAs l w r t p)) (parts (l .card))))))
 
 -- `told` speaks of a part that the trace has
 pub record Ruled (delays : Delays) (l : Lent) (w : Whose) (x : Read) (t : ℕ) (r : Ruling) : Type 0 where
@@ -102,11 +102,19 @@ pub record Ruled (delays : Delays) (l : Lent) (w : Whose) (x : Read) (t : ℕ) (
   pub first : refusalOf (r .answer) ≡ none → ledgerOf (r .ledgers .first) ≡ ledgerAs l w x t 0
   pub second : refusalOf (r .answer) ≡ none → ledgerOf (r .ledgers .second) ≡ cond (l .card .paired) (ledgerAs l w x t 1) (l .share 1 .ledger)
 
+-- the pace then, as it is stored, by the ledgers at the stamp
+abbrev pub paceAs : Record → Read → Ruling → Pace
+paceAs rec x y = paceIn (paceBy (cardOf (rec .card)) (numberOf (ledgerOf (y .ledgers .first))) (mr4Of x) (paceOf (rec .pace)))
+
 -- the record is changed where the entry is taken, and only there
 pub record Settled (rec : Record) (stamp : ℕ) (w : Whose) (x : Read) (y : Ruling) (r : Stepped) : Type 0 where
   pub told : refusalOf (r .answer) ≡ refusalOf (y .answer)
   pub kept : (z : Refusal) → refusalOf (y .answer) ≡ some z → r .rec ≡ rec
-  pub changed : refusalOf (y .answer) ≡ none → Changed rec stamp w (recordedAs x) (moveOf x) (y .ledgers) (r .rec)
+  pub changed : refusalOf (y .answer) ≡ none → Changed rec stamp w (recordedAs x) (moveOf x) (y .ledgers) (paceAs rec x y) (r .rec)
+
+-- of every entry that is of this part and is read so
+abbrev pub OfferedTo : Record → (stamp : ℕ) → Whose → Read → Stepped → Type 0
+OfferedTo rec t w x r = (e : Entry) → e .stamp ≡ t → whoseOf (lentOf rec .card) e ≡ w → readIn (lentOf rec) e ≡ x → Left (stepRefusal (lentOf rec) e) rec e r
 
 -- ---- a run
 -- what was run, and what was run behind it, add up in 64 bits

@@ -4,10 +4,8 @@ use mathlib.Core.Bool.{Bool, cond, _&&_}
 use mathlib.Core.List.{List}
 use lib.ListN.{drop}
 use Rattle.rules.specs.Commands.{NOP, is}
-use Rattle.rules.specs.Clock.{beatOf}
 use Rattle.rules.specs.Entries.{recordedAs}
 use Rattle.rules.specs.Lent.{ledgerTo}
-use Rattle.card.specs.Values.{cardOf}
 use Rattle.card.specs.declared.Delays.{Delays}
 use Rattle.pins.specs.declared.Front.{Front}
 use Rattle.pins.specs.Fronts.{frontOf}
@@ -20,7 +18,7 @@ use Rattle.step.specs.declared.single.Single.{Single}
 use Rattle.step.specs.declared.single.Gone.{Gone}
 use Rattle.step.specs.Ready.{Hot, Nop, Act, Rd, Wr, Pre, Cold, readyOf}
 use Rattle.step.specs.Runs.{entryAt}
-use Rattle.step.specs.Single.{gone, goneBehind, readBy, singleWith}
+use Rattle.step.specs.Single.{gone, goneBehind, readBy, duesBy, singleWith}
 
 unfoldable pub goesOn : Delays → Single → Front → Bool
 goesOn d rec f = f .whole && readyOf d rec (f .stamp) (f .pins)
@@ -46,6 +44,7 @@ abbrev pub nowOf : Single → Banks → Bus → Four → (last : ℕ) → Single
 nowOf rec banks bus four t = record {
   card = rec .card;
   last = onceAt t;
+  pace = rec .pace;
   share = record {
     mr2 = rec .share .mr2;
     counter = rec .share .counter;
@@ -54,11 +53,11 @@ nowOf rec banks bus four t = record {
     bus = bus;
     four = four;
     banks = banks;
-    ledger = codeOf (ledgerTo (beatOf (cardOf (rec .card))) (ledgerOf (rec .share .ledger)) t);
+    ledger = codeOf (ledgerTo (duesBy rec) (ledgerOf (rec .share .ledger)) t);
   };
 }
 
 -- the last entry is one that the ledger reaches
 pub record EndArgs (rec : Single) (t : ℕ) : Type 0 where
   pub later : rec .share .ledger .at ≤ t
-  pub early : t < deadlineOf (rec .card) (rec .share .ledger)
+  pub early : t < deadlineOf (rec .card) (rec .pace) (rec .share .ledger)

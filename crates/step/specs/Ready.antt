@@ -137,5 +137,5 @@ standsOf rec =
 unfoldable pub readyOf : Delays → Single → (stamp pins : ℕ) → Bool
 readyOf d rec t p =
     standsOf rec &&
-    (ltb (rec .last .at) t && ltb t (deadlineOf (rec .card) (rec .share .ledger))) &&
+    (ltb (rec .last .at) t && ltb t (deadlineOf (rec .card) (rec .pace) (rec .share .ledger))) &&
     readyBy (hotOf (decode p)) (laneOf rec (bankOn p)) (waitsOf d rec) d (rec .share .bus) (rec .share .banks .act .at) (getD (rec .share .four .at) 3 0) t

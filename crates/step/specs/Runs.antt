@@ -1,4 +1,4 @@
--- A run over the entries at the start of some bytes.
+-- A run over the entries of pins at the start of some bytes.
 use Prim.Native.Nat.{ℕ, zero, suc, _+_}
 use mathlib.Core.Bool.{Bool, cond, _&&_}
 use mathlib.Core.List.{List}
@@ -16,7 +16,7 @@ use Rattle.step.specs.Values.{recordWith}
 abbrev pub entryAt : List ℕ → Entry
 entryAt bs = entry (frontOf bs .stamp) (frontOf bs .pins)
 
--- an entry stands at the start of these bytes, and is taken. A record that 13 refuses takes none
+-- an entry of pins stands at the start of these bytes, and is taken. A record that 13 refuses takes none
 unfoldable pub takes : Record → List ℕ → Bool
 takes rec bs = frontOf bs .whole && isNone (stepRefusal (lentOf rec) (entryAt bs))
 

@@ -6,20 +6,20 @@ use mathlib.Core.List.{List, _∷_}
 use mathlib.Core.Option.{Option, none}
 use lib.Dec.{leb}
 use lib.ListN.{length}
-use Rattle.rules.specs.Units.{delaysOf}
+use Rattle.rules.specs.Heat.{delaysAt}
 use Rattle.rules.specs.Ranges.{cardGood}
-use Rattle.rules.specs.Levels.{Read, readPins}
+use Rattle.rules.specs.Levels.{Level, Read, readPins, readMR4}
 use Rattle.rules.specs.Folds.{firstOf}
 use Rattle.rules.specs.Delays.{lookBoth}
-use Rattle.rules.specs.Clock.{beatOf}
-use Rattle.rules.specs.Entries.{Entry, View, recordedAs, moveOf}
+use Rattle.rules.specs.Account.{Beat}
+use Rattle.rules.specs.Entries.{Body, pins, mr4, Entry, View, recordedAs, moveOf, mr4Of}
 use Rattle.rules.specs.Checks.{Refusal, unless, checks}
 use Rattle.rules.specs.Lent as lent
-use Rattle.rules.specs.Lent.{lookIn, shareGood, aboveLast, effectOf, entered, failingTo, failingOf}
+use Rattle.rules.specs.Lent.{beatOf, numberOf, lookIn, shareGood, aboveLast, effectOf, entered, failingTo, failingOf, paceBy}
 use Rattle.card.specs.Values.{cardOf, clocksOf}
 use Rattle.card.specs.declared.Delays.{Delays}
 use Rattle.pins.specs.Values.{levelOf}
-use Rattle.ledger.specs.Values.{ledgerOf, codeOf}
+use Rattle.ledger.specs.Values.{ledgerOf, codeOf, paceOf, paceIn}
 use Rattle.bank.specs.declared.Share.{Share}
 use Rattle.bank.specs.declared.Record.{Record}
 use Rattle.bank.specs.Values.{lastOf, shareOf}
@@ -32,10 +32,10 @@ use Rattle.step.specs.Parts.{Fits, onwards}
 
 -- ---- of a record, and back
 unfoldable pub singleOf : Record → Single
-singleOf rec = record { card = rec .card; last = rec .last; share = rec .first }
+singleOf rec = record { card = rec .card; last = rec .last; pace = rec .pace; share = rec .first }
 
 abbrev pub whole : Share → Single → Record
-whole x s = record { card = s .card; last = s .last; first = s .share; second = x }
+whole x s = record { card = s .card; last = s .last; pace = s .pace; first = s .share; second = x }
 
 abbrev pub gone : Single → (used commands refreshes : ℕ) → Gone
 gone s used commands refreshes = record { rec = s; used = used; commands = commands; refreshes = refreshes }
@@ -47,14 +47,25 @@ unfoldable pub ranWith : Share → Gone → Ran
 ranWith x g = ran (whole x (g .rec)) (g .used) (g .commands) (g .refreshes)
 
 -- ---- an entry
+unfoldable pub readAlone : (sleeps : Bool) → Level → Body → Read
+readAlone sleeps l (pins p) = readPins sleeps l p
+readAlone sleeps l (mr4 v) = readMR4 sleeps false l v
+
 unfoldable pub readBy : Single → Entry → Read
-readBy s e = readPins (s .card .sleeps) (levelOf (s .share .ledger .level)) (e .pins)
+readBy s e = readAlone (s .card .sleeps) (levelOf (s .share .ledger .level)) (e .body)
 
 unfoldable pub effectBy : Single → Entry → lent.Effect
-effectBy s e = effectOf (readBy s e) (s .share .counter) (levelOf (s .share .ledger .level))
+effectBy s e = effectOf (readBy s e) (s .share .counter)
+
+-- when refreshes are due
+abbrev pub duesBy : Single → Beat
+duesBy s = beatOf (cardOf (s .card)) (paceOf (s .pace))
 
 unfoldable pub ledgerBy : Single → Entry → lent.Ledger
-ledgerBy s e = entered (effectBy s e) (beatOf (cardOf (s .card))) (ledgerOf (s .share .ledger)) (e .stamp)
+ledgerBy s e = entered (effectBy s e) (duesBy s) (ledgerOf (s .share .ledger)) (e .stamp)
+
+unfoldable pub spacedBy : Single → Entry → lent.Pace
+spacedBy s e = paceBy (cardOf (s .card)) (numberOf (ledgerBy s e)) (mr4Of (readBy s e)) (paceOf (s .pace))
 
 -- 13 lets it pass
 unfoldable pub soundBy : Single → Bool
@@ -71,7 +82,7 @@ refusalBy s e =
     let t = e .stamp in
     firstOf (
     unless (soundBy s) 13 ∷
-    checks card (delaysOf card) (viewBy s) (aboveLast (lastOf (s .last)) t && leb (g .at) t) (failingTo (beatOf card) g t) (failingOf (beatOf card) (ledgerBy s e)) (readBy s e) t
+    checks card (delaysAt card (s .pace .mr4)) (viewBy s) (aboveLast (lastOf (s .last)) t && leb (g .at) t) (failingTo (duesBy s) g t) (failingOf (duesBy s) (ledgerBy s e)) (readBy s e) t
     )
 
 -- the record then
@@ -79,15 +90,16 @@ unfoldable pub singleWith : Single → Entry → Single
 singleWith s e = record {
   card = s .card;
   last = onceAt (e .stamp);
+  pace = paceIn (spacedBy s e);
   share = shareAfter (s .share) (recordedAs (readBy s e)) (moveOf (readBy s e)) (e .stamp) (codeOf (ledgerBy s e));
 }
 
 -- ---- a run
--- a sound record of one part, and the delays of its card
+-- a sound record of one part, and the delays of its card at its temperature
 pub record Ready (s : Single) (delays : Delays) : Type 0 where
   pub single : s .card .paired ≡ false
   pub sound : soundBy s ≡ true
-  pub clocks : clocksOf delays ≡ delaysOf (cardOf (s .card))
+  pub clocks : clocksOf delays ≡ delaysAt (cardOf (s .card)) (s .pace .mr4)
 
 -- as the run goes of any record that holds this part
 abbrev pub RunsTo : (most : ℕ) → Single → List ℕ → Gone → Type 0

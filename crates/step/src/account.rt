@@ -1,9 +1,10 @@
 // The stamp against the last entry's, and the refresh account.
 ghost use mathlib.Core.Path.{_≡_};
 ghost use Rattle.rules.specs.Past.{isCounted};
-ghost use Rattle.rules.specs.Lent.{aboveLast};
+ghost use Rattle.rules.specs.Entries.{mr4Of};
+ghost use Rattle.rules.specs.Lent.{aboveLast, isThere};
 ghost use Rattle.rules.specs.Lent as lent;
-ghost use Rattle.pins.specs.Values.{commandOf, levelOf, readOf};
+ghost use Rattle.pins.specs.Values.{commandOf, readOf};
 ghost use Rattle.ledger.specs.Values as paid;
 ghost use Rattle.bank.specs.Values.{lastOf};
 ghost use Rattle.step.specs.Values.{refusalOf};
@@ -12,7 +13,6 @@ use crate::Answer;
 use bank::Once;
 use ledger::Effect;
 use pins::Command;
-use pins::Level;
 use pins::Read;
 
 pub fn rises(last: Once, stamp: u32) -> bool
@@ -35,13 +35,24 @@ pub fn counts(command: Command, counter: u8) -> bool
     }
 }
 
+// Whether it is a temperature.
+fn senses(read: Read) -> bool
+    ensures { λ r. ⌜ r ≡ isThere (mr4Of (readOf read)) ⌝ }
+{
+    match read {
+        Read::Sensed(_) => true,
+        _ => false,
+    }
+}
+
 // What an entry does to the ledger.
-pub fn effect_of(read: Read, counter: u8, level: Level) -> Effect
-    ensures { λ r. ⌜ paid.effectOf r ≡ lent.effectOf (readOf read) counter (levelOf level) ⌝ }
+pub fn effect_of(read: Read, counter: u8) -> Effect
+    ensures { λ r. ⌜ paid.effectOf r ≡ lent.effectOf (readOf read) counter ⌝ }
 {
     Effect {
         counted: counts(pins::recorded(read), counter),
-        level: pins::level_after(pins::move_of(read), level),
+        sensed: senses(read),
+        moved: pins::move_of(read),
     }
 }
 

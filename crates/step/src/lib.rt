@@ -1,4 +1,5 @@
-// An entry offered to a record: 13, 5, 11 below its stamp, 6, 24, 7, 8, 16, 9, 10, 11 at its stamp; and the record then. A run of entries, up to the first that is refused.
+// An entry, of pins or a temperature, offered to a record: 13, 5, 11 below its stamp, 6, 24, 7, 8, 16, 9, 26, 10, 11 at its stamp; and the record then. A run of entries of pins, up
+// to the first that is refused.
 mod account;
 mod counts;
 mod cycles;
@@ -14,6 +15,7 @@ mod waits;
 
 pub use account::as_told;
 use bank::Record;
+pub use offering::sense;
 pub use offering::step;
 pub use turns::run;
 
@@ -29,6 +31,7 @@ pub enum Answer {
     State,
     Barred,
     Value,
+    Code,
     TooSoon { rule: u8, cycle: u64 },
 }
 

@@ -56,7 +56,15 @@ fn one_entry(rec: Record, delays: Delays, bytes: &[u8], at: usize) -> Ran
     let moved = pins::move_of(read);
     let share = bank::own(rec, whose);
     Ran {
-        rec: bank::after(rec, front.stamp, whose, command, moved, ruling.ledgers),
+        rec: bank::after(
+            rec,
+            front.stamp,
+            whose,
+            command,
+            moved,
+            ruling.ledgers,
+            rec.pace,
+        ),
         used: 10,
         commands: commands_by(command),
         refreshes: refreshes_by(command, share.counter),

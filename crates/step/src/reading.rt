@@ -1,9 +1,10 @@
-// The pins, both CS_n, the bank state, what is permitted at the level, and the value: 6, 24, 7, 8, 16, 9.
+// The pins, both CS_n, the bank state, what is permitted at the level, and the values of MRW and of MR4: 6, 24, 7, 8, 16, 9, 26.
 ghost use mathlib.Core.Path.{_≡_};
 ghost use mathlib.Core.Bool.{false};
 ghost use lib.ListN.{getD};
 ghost use Rattle.rules.specs.States.{allClosed, stateGood};
-ghost use Rattle.rules.specs.Checks.{valueGood};
+ghost use Rattle.rules.specs.Heat.{mr4Good};
+ghost use Rattle.rules.specs.Checks.{unless, valueGood};
 ghost use Rattle.rules.specs.Levels.{plain};
 ghost use Rattle.card.specs.Values.{cardOf};
 ghost use Rattle.pins.specs.Values.{commandOf, decodedOf, readOf};
@@ -87,6 +88,16 @@ fn pins_refused(card: Card, opened: [bool; 8], counter: u8, decoded: Decoded) ->
     }
 }
 
+// A code of MR4 that is not taken.
+fn code_refused(mr4: u8) -> Answer
+    ensures { λ r. ⌜ refusalOf r ≡ unless (mr4Good mr4) 26 ⌝ }
+{
+    if card::mr4_good(mr4) {
+        return Answer::Taken;
+    }
+    Answer::Code
+}
+
 pub fn reading(card: Card, opened: [bool; 8], counter: u8, read: Read) -> Answer
     ensures { λ r. ⌜ refusalOf r ≡ readingRefusal (cardOf card) (λ b. getD opened b false) counter (readOf read) ⌝ }
 {
@@ -96,5 +107,6 @@ pub fn reading(card: Card, opened: [bool; 8], counter: u8, read: Read) -> Answer
         Read::Asleep => Answer::Taken,
         Read::Barred => Answer::Barred,
         Read::Clash => Answer::Clash,
+        Read::Sensed(mr4) => code_refused(mr4),
     }
 }

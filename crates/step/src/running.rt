@@ -60,7 +60,8 @@ fn ended(
     let card = rec.card;
     let latest = rec.share.latest;
     let moves = rec.share.moves;
-    let moved = ledger::moved(rec.share.ledger, card, last);
+    let pace = rec.pace;
+    let moved = ledger::moved(rec.share.ledger, pace, card, last);
     let there = moved.ledger;
     Gone {
         rec: Single {
@@ -69,6 +70,7 @@ fn ended(
                 seen: true,
                 at: last,
             },
+            pace: pace,
             share: Share {
                 mr2: rec.share.mr2,
                 counter: rec.share.counter,
@@ -90,7 +92,7 @@ fn ended(
 pub fn quick_run(rec: Single, delays: Delays, bytes: &[u8], most: usize) -> Gone
     ensures { λ r. ⌜ r ≡ quickOf most delays rec (now (bytes .entry)) ⌝ }
 {
-    let end = ledger::deadline(rec.share.ledger, rec.card);
+    let end = ledger::deadline(rec.share.ledger, rec.pace, rec.card);
     if !stands(rec, end) {
         return Gone {
             rec: rec,

@@ -6,10 +6,12 @@ use bank::Once;
 use bank::Record;
 use bank::Share;
 use card::Card;
+use ledger::Pace;
 
 pub struct Single {
     pub card: Card,
     pub last: Once,
+    pub pace: Pace,
     pub share: Share,
 }
 
@@ -26,10 +28,12 @@ pub fn single_of(rec: Record) -> Single
 {
     let card = rec.card;
     let last = rec.last;
+    let pace = rec.pace;
     let share = rec.first;
     Single {
         card: card,
         last: last,
+        pace: pace,
         share: share,
     }
 }
@@ -51,11 +55,13 @@ pub fn ran_with(way: Gone, second: Share) -> Ran
 {
     let card = way.rec.card;
     let last = way.rec.last;
+    let pace = way.rec.pace;
     let share = way.rec.share;
     Ran {
         rec: Record {
             card: card,
             last: last,
+            pace: pace,
             first: share,
             second: second,
         },

@@ -45,8 +45,8 @@ fn by_table(rec: Single, delays: Delays, bytes: &[u8], at: usize) -> Gone
     let ledger = rec.share.ledger;
     let level = ledger.level;
     let read = pins::read_pins(rec.card.sleeps, false, level, front.pins);
-    let effect = effect_of(read, rec.share.counter, level);
-    let after = ledger::entered(ledger, rec.card, front.stamp, effect);
+    let effect = effect_of(read, rec.share.counter);
+    let after = ledger::entered(ledger, rec.pace, rec.card, front.stamp, effect);
     let told = after.answer;
     let answer = ruled(
         rec.card,
@@ -65,12 +65,14 @@ fn by_table(rec: Single, delays: Delays, bytes: &[u8], at: usize) -> Gone
     let moved = pins::move_of(read);
     let there = after.ledger;
     let card = rec.card;
+    let pace = rec.pace;
     let last = bank::once_at(front.stamp);
     let share = bank::share_after(rec.share, front.stamp, command, moved, there);
     Gone {
         rec: Single {
             card: card,
             last: last,
+            pace: pace,
             share: share,
         },
         used: 10,
@@ -109,14 +111,15 @@ fn single_run(rec: Single, delays: Delays, bytes: &[u8], most: usize) -> Gone
     }
 }
 
-// At most so many entries, up to the first that a step refuses. 13 is asked once: an entry that is taken keeps a sound record sound.
+// At most so many entries of pins, up to the first that a step refuses. 13 is asked once, and the delays are picked once: an entry that is taken keeps a sound record sound, and
+// pins leave the temperature as it is.
 pub fn run(rec: Record, bytes: &[u8], most: usize) -> Ran
     ensures { λ r. ⌜ r ≡ runOf most rec (now (bytes .entry)) ⌝ }
 {
     if !bank::good(rec) {
         return nothing(rec);
     }
-    let delays = card::delays_of(rec.card);
+    let delays = card::delays_at(rec.card, rec.pace.mr4);
     if rec.card.paired {
         return pair_run(rec, delays, bytes, most);
     }

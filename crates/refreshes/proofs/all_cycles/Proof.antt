@@ -12,6 +12,9 @@ abbrev μ-loop : tie.MeasureT-loop
 loop-holds : tie.Need-loop-holds Inv-loop μ-loop
 loop-holds c = search needs
 
+first-requires : tie.Need-first-requires Inv-loop μ-loop
+first-requires c κs = search needs
+
 bench-requires : tie.Need-bench-requires Inv-loop μ-loop
 bench-requires c κs = search needs
 
@@ -46,6 +49,7 @@ all-cycles-spec =
     Inv-loop
     μ-loop
     loop-holds
+    first-requires
     bench-requires
     cast-moved
     moved-requires

@@ -1,11 +1,9 @@
 -- The ledger's own answer, to what the entry does to it.
 use borrow.Author.Needs.{needs}
-use Rattle.ledger.specs.Values.{ledgerOf}
 use Rattle.bank.proofs.both.entered_on.Statement.{statement}
 use Rattle.bank.proofs.both.entered_on.Tie as tie
 
 returns : tie.Need-returns
-unfolding ledgerOf
 returns c = rw (← c .before .effect-on .ensures) (c .entered .ensures)
 
 pub entered-on-spec : {M : Type 1} → statement M

@@ -1,12 +1,15 @@
--- Two fresh shares beside the card.
+-- The card's first pace and two fresh shares beside it.
+use mathlib.Core.Path.{ap, sym, _∙_}
 use borrow.Author.Needs.{needs}
+use Rattle.ledger.specs.Values.{paceIn}
+use Rattle.ledger.proofs.Promises.{pace-is}
 use Rattle.bank.specs.Values.{never, freshOf}
 use Rattle.bank.proofs.fresh.fresh_record.Statement.{statement}
 use Rattle.bank.proofs.fresh.fresh_record.Tie as tie
 
 returns : tie.Need-returns
 unfolding never freshOf
-returns c = rw (c .before .fresh-share .ensures, c .fresh-share2 .ensures)
+returns c = rw (sym (pace-is _) ∙ ap paceIn (c .before .before .first-pace .ensures), c .before .fresh-share .ensures, c .fresh-share2 .ensures)
 
 pub fresh-record-spec : {M : Type 1} → statement M
-fresh-record-spec = tie.close (tie.spec (λ c κs. search needs) (λ c κs. search needs) returns)
+fresh-record-spec = tie.close (tie.spec (λ c κs. search needs) (λ c κs. search needs) (λ c κs. search needs) returns)

@@ -8,7 +8,7 @@ use Rattle.bank.proofs.taking.after.Tie as tie
 returns : tie.Need-returns
 returns c =
     let s = c .before .before .before in
-    changed _ _ _ _ _ _ (c .before .share-taken .result) (c .share-taken2 .result)
+    changed _ _ _ _ _ _ _ (c .before .share-taken .result) (c .share-taken2 .result)
     (rw (← s .before .is-first .ensures) (c .before .share-taken .ensures)) (rw (← s .is-second .ensures) (c .share-taken2 .ensures)) _
     (rw (c .before .before .once-at .ensures) refl)
 

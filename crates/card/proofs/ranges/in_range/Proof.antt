@@ -10,14 +10,15 @@ use Rattle.card.proofs.ranges.in_range.Tie as tie
 returns : tie.Need-returns
 unfolding cardGood cardOf good
 returns c =
-    let s = c .before .before in
+    let s = c .before .before .before in
     rw (
       s .before .before .before .before .value-good .ensures,
       s .before .before .before .mr2-good .ensures,
       s .before .value-good2 .ensures,
       s .value-good3 .ensures,
-      c .before .timings-good .ensures,
-      le-leb (s .before .before .before .before .before .args .card .gap) 255 (omega (arith, c .struct-known2 .given .1 .1 .1 .1 .1 .1 .1 .1 .0)),
+      c .before .before .timings-good .ensures,
+      c .value-good4 .ensures,
+      le-leb (s .before .before .before .before .before .args .card .gap) 255 (omega (arith, c .before .struct-known2 .given .1 .1 .1 .1 .1 .1 .1 .1 .0)),
     )
 
 pub in-range-spec : {M : Type 1} → statement M
@@ -27,6 +28,7 @@ in-range-spec =
     (λ c κs. search needs)
     (λ c κs. search needs)
     (λ c. search needs)
+    (λ c κs. search needs)
     (λ c κs. search needs)
     (λ c κs. search needs)
     (λ c κs. search needs)

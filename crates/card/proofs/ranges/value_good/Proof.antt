@@ -3,7 +3,7 @@ use native.Mathlib.Omega.{arith}
 use borrow.Author.Tests.{le-ltb, eq-eqb, ne-eqb}
 use borrow.Author.Needs.{needs}
 use Rattle.rules.specs.Registers.{mr2Good}
-use Rattle.rules.specs.Ranges.{periodGood, groupsGood, trefiGood}
+use Rattle.rules.specs.Ranges.{periodGood, groupsGood, trefiGood, raiseGood}
 use Rattle.card.specs.Reading.{good}
 use Rattle.card.proofs.ranges.value_good.Statement.{statement}
 use Rattle.card.proofs.ranges.value_good.Tie as tie
@@ -34,16 +34,21 @@ unfolding good
 returns-6 c = rw (c .if6 .taken)
 
 returns-7 : tie.Need-returns-7
+unfolding good raiseGood
+returns-7 c = rw (c .if7 .taken)
+
+returns-8 : tie.Need-returns-8
 unfolding good
-returns-7 c =
-    let s = c .before .before in
+returns-8 c =
+    let s = c .before .before .before in
     c .timing-good .ensures
     ∙ rw (
       ne-eqb _ _ (s .before .before .before .if1 .left),
       ne-eqb _ _ (s .before .before .if2 .left),
       ne-eqb _ _ (s .before .if4 .left),
       ne-eqb _ _ (s .if5 .left),
-      ne-eqb _ _ (c .before .if6 .left),
+      ne-eqb _ _ (c .before .before .if6 .left),
+      ne-eqb _ _ (c .before .if7 .left),
     )
 
 pub value-good-spec : {M : Type 1} → statement M
@@ -61,5 +66,6 @@ value-good-spec =
     (λ c κs. search needs)
     returns-5
     returns-6
+    returns-7
     (λ c κs. search needs)
-    returns-7)
+    returns-8)

@@ -1,11 +1,11 @@
 use native.Mathlib.Numerals.{add-one}
 use borrow.Author.Needs.{needs}
-use Rattle.rules.specs.Form.{ofTrace, mayFollow}
+use Rattle.rules.specs.Form.{ofEntry, ofTrace, mayFollow}
 use Rattle.card.proofs.tags.may_come.Statement.{statement}
 use Rattle.card.proofs.tags.may_come.Tie as tie
 
 returns : tie.Need-returns
-unfolding mayFollow ofTrace
+unfolding mayFollow ofTrace ofEntry
 returns c = rw (c .begins-group .ensures, ← c .before .before .ends-group .ensures, c .before .if1 .taken)
 
 returns-2 : tie.Need-returns-2

@@ -1,12 +1,14 @@
 use mathlib.Core.Path.{_∙_}
 use borrow.Author.Needs.{needs}
 use Rattle.rules.specs.Units.{rowCycle}
-use Rattle.card.specs.Values.{cardOf}
+use Rattle.rules.specs.Heat.{longer, hotCard}
+use Rattle.card.specs.Values.{timingIn, cardOf}
+use Rattle.card.specs.Parts.{raisedBy, raisedIn}
 use Rattle.card.proofs.timings.joined_clocks.Statement.{statement}
 use Rattle.card.proofs.timings.joined_clocks.Tie as tie
 
 returns : tie.Need-returns
-unfolding rowCycle cardOf
+unfolding rowCycle hotCard longer timingIn cardOf raisedBy raisedIn
 returns c =
     let s = c .before .before .before .before .before .before in
     let p = s .timing2 .ensures in

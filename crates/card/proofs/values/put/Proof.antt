@@ -1,10 +1,9 @@
 use mathlib.Core.Bool.{not}
 use native.Mathlib.Omega.{arith}
-use borrow.Author.Tests.{ne-eqb}
 use borrow.Author.Needs.{needs}
 use Rattle.rules.specs.Ranges.{within}
 use Rattle.card.specs.Reading.{good, put}
-use Rattle.card.proofs.Lengths.{is-within, a-timing}
+use Rattle.card.proofs.Lengths.{a-timing}
 use Rattle.card.proofs.Numbers.{mr2-byte, groups-short, gap-byte}
 use Rattle.card.proofs.values.put.Statement.{statement}
 use Rattle.card.proofs.values.put.Tie as tie
@@ -43,31 +42,16 @@ returns-5 : tie.Need-returns-5
 unfolding put within
 returns-5 c = rw (c .if5 .taken)
 
--- where none of the tests held, the tag is a timing's
-sub-i : tie.Need-sub-i
-sub-i c =
-    let e = c .before .before .before .before in
-    omega (arith, a-timing _ (e .before .pre .0) (e .if1 .left) (c .before .before .before .if2 .left) (c .before .before .if3 .left) (c .before .if4 .left) (c .if5 .left))
-
-element-write : tie.Need-element-write-next
-element-write c =
-    let e = c .before .before .before .before in
-    omega (arith, a-timing _ (e .before .pre .0) (e .if1 .left) (c .before .before .before .if2 .left) (c .before .before .if3 .left) (c .before .if4 .left) (c .if5 .left))
-
 returns-6 : tie.Need-returns-6
-unfolding put
-returns-6 c =
-    let e = c .before in
-    let a = e .before .before .before .before in
-    let (low, high) = a-timing _ (a .before .pre .0) (a .if1 .left) (e .before .before .before .if2 .left) (e .before .before .if3 .left) (e .before .if4 .left) (e .if5 .left) in
-    rw (
-      ne-eqb _ _ (a .if1 .left),
-      ne-eqb _ _ (e .before .before .before .if2 .left),
-      ne-eqb _ _ (e .before .before .if3 .left),
-      ne-eqb _ _ (e .before .if4 .left),
-      ne-eqb _ _ (e .if5 .left),
-      is-within 5 22 (a .before .args .tag) low high,
-    )
+unfolding put within
+returns-6 c = rw (c .if6 .taken)
+
+-- where none of the tests held, the tag is a timing's
+put-timing-requires : tie.Need-put-timing-requires
+put-timing-requires c κs =
+    let s = c .before .before .before in
+    a-timing _ (s .before .before .before .pre .0) (s .before .before .if1 .left) (s .before .if2 .left) (s .if3 .left) (c .before .before .if4 .left)
+    (c .before .if5 .left) (c .if6 .left)
 
 pub put-spec : {M : Type 1} → statement M
 put-spec =
@@ -81,9 +65,6 @@ put-spec =
     returns-4
     cast-next-3
     returns-5
-    sub-i
-    (λ c. search needs)
-    (λ c. search needs)
-    element-write
-    element-write
-    returns-6)
+    returns-6
+    put-timing-requires
+    (λ c. search needs))

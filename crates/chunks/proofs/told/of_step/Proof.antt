@@ -46,12 +46,17 @@ returns-10 c = rw (c .enum-told9 .given .1)
 
 returns-11 : tie.Need-returns-11
 unfolding toldOf stepped.refusalOf
-returns-11 c = rw (c .before .answer2 .given .1)
+returns-11 c = rw (c .enum-told10 .given .1)
+
+returns-12 : tie.Need-returns-12
+unfolding toldOf stepped.refusalOf
+returns-12 c = rw (c .before .answer2 .given .1)
 
 pub of-step-spec : {M : Type 1} → statement M
 of-step-spec =
     tie.close
     (tie.spec
+    (λ c. search needs)
     (λ c. search needs)
     (λ c. search needs)
     (λ c. search needs)
@@ -73,4 +78,5 @@ of-step-spec =
     returns-8
     returns-9
     returns-10
-    returns-11)
+    returns-11
+    returns-12)

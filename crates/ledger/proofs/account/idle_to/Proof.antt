@@ -1,70 +1,75 @@
 -- The code's closed form is the account's.
 use Prim.Native.Nat.{_≤_, _<_}
-use mathlib.Core.Path.{ap, sym, _∙_, subst}
+use mathlib.Core.Path.{subst}
 use native.Mathlib.Omega.{arith}
-use borrow.Author.Needs.{needs}
-use Rattle.ledger.specs.Parts.{beatAs, breaks, idleOf}
-use Rattle.ledger.proofs.Closing.{past-le, within-as, stands-as, over-passed, breaks-19, breaks-20, stands-tell, breaks-tell, not-stands, not-breaks}
+use Rattle.ledger.specs.Parts.{beatAs, idleOf}
+use Rattle.ledger.proofs.Closing.{past-le, within-first, stands-as, breaks-as, passed-as, stands-tell, breaks-tell, not-stands, not-breaks}
 use Rattle.ledger.proofs.account.idle_to.Statement.{statement}
 use Rattle.ledger.proofs.account.idle_to.Tie as tie
 
-sub-t13 : tie.Need-sub-t13
-sub-t13 c = omega (arith, past-le _ _ _ _ (c .before .before .before .before .before .before .pre))
+first-failing-requires : tie.Need-first-failing-requires
+first-failing-requires c κs = (c .pre .spaced, c .pre .low)
 
-cast-t14 : tie.Need-cast-t14
-cast-t14 c = omega (arith, within-as _ _ _ _ (c .before .before .before .before .before .before .pre) _ _ (c .before .fallen .ensures) (c .fallen2 .ensures) (omega arith))
+fallen-requires : tie.Need-fallen-requires
+fallen-requires c κs = c .before .before .before .pre .spaced
 
-add-t15 : tie.Need-add-t15
-add-t15 c = omega (arith, within-as _ _ _ _ (c .before .before .before .before .before .before .pre) _ _ (c .before .fallen .ensures) (c .fallen2 .ensures) (omega arith))
+fallen-requires-2 : tie.Need-fallen-requires-2
+fallen-requires-2 c κs = c .before .before .before .before .pre .spaced
+
+sub-t11 : tie.Need-sub-t11
+sub-t11 c =
+    let s = c .before .before .before .before .before in
+    omega (arith, past-le (beatAs (s .args .beat)) _ _ _ (s .pre .spaced .some) (s .pre .low) (s .pre .later))
+
+cast-t12 : tie.Need-cast-t12
+cast-t12 c =
+    let f = c .before .before .before .before in
+    let a = f .before .pre in
+    omega (arith, within-first _ _ _ _ (a .spaced .some) (a .low) (a .later) _ _ (f .first-failing .ensures) (omega arith) _ _ (c .before .fallen .ensures) (c .fallen2 .ensures))
+
+add-t13 : tie.Need-add-t13
+add-t13 c =
+    let f = c .before .before .before .before in
+    let a = f .before .pre in
+    omega (arith, within-first _ _ _ _ (a .spaced .some) (a .low) (a .later) _ _ (f .first-failing .ensures) (omega arith) _ _ (c .before .fallen .ensures) (c .fallen2 .ensures))
 
 returns : tie.Need-returns
 unfolding idleOf beatAs
 returns c =
-    let a = c .before .before .before .before .before .before .pre in
+    let f = c .before .before .before .before in
+    let a = f .before .pre in
     record {
-      is = stands-as _ _ _ _ a _ _ _ (c .before .fallen .ensures) (c .fallen2 .ensures) (omega arith);
-      low = λ x e. subst (λ y. y ≤ 16) (stands-tell e) (within-as _ _ _ _ a _ _ (c .before .fallen .ensures) (c .fallen2 .ensures) (omega arith));
+      is = stands-as _ _ _ _ (a .spaced .some) (a .low) (a .later) _ _ (f .first-failing .ensures) (omega arith) _ _ (c .before .fallen .ensures) (c .fallen2 .ensures);
+      low =
+          λ x e.
+          subst (λ y. y ≤ 16) (stands-tell e)
+          (within-first _ _ _ _ (a .spaced .some) (a .low) (a .later) _ _ (f .first-failing .ensures) (omega arith) _ _ (c .before .fallen .ensures) (c .fallen2 .ensures));
       passed = λ q m e. absurd (not-breaks e);
     }
 
 returns-2 : tie.Need-returns-2
 unfolding idleOf beatAs
 returns-2 c =
-    let a = c .before .before .before .before .before .pre in
+    let f = c .before .before in
+    let a = f .before .pre in
     record {
-      is = ap (breaks 19) (c .before .before .before .before .over-at .ensures) ∙ sym (breaks-19 _ _ _ _ a _ (omega arith) (omega arith));
+      is = breaks-as _ _ _ _ (a .spaced .some) (a .low) (a .later) _ _ (f .first-failing .ensures) (omega arith);
       low = λ x e. absurd (not-stands e);
       passed =
           λ q m e.
-          subst (λ y. (c .before .before .before .before .before .args .n < y) × (y ≤ c .before .before .before .before .before .args .to)) (breaks-tell e)
-          (over-passed _ _ _ _ a 0 _ (c .before .before .before .before .over-at .ensures) (omega arith));
-    }
-
-returns-3 : tie.Need-returns-3
-unfolding idleOf beatAs
-returns-3 c =
-    let a = c .before .before .before .before .before .pre in
-    record {
-      is = ap (breaks 20) (c .before .before .before .late-at .ensures) ∙ sym (breaks-20 _ _ _ _ a _ (omega arith) (omega arith));
-      low = λ x e. absurd (not-stands e);
-      passed =
-          λ q m e.
-          subst (λ y. (c .before .before .before .before .before .args .n < y) × (y ≤ c .before .before .before .before .before .args .to)) (breaks-tell e)
-          (omega arith, omega arith);
+          subst (λ y. (f .before .args .n < y) × (y ≤ f .before .args .to)) (breaks-tell e)
+          (passed-as _ _ _ _ (a .spaced .some) (a .low) (a .later) _ _ (f .first-failing .ensures) (omega arith));
     }
 
 pub idle-to-spec : {M : Type 1} → statement M
 idle-to-spec =
     tie.close
     (tie.spec
-    (λ c κs. search needs)
-    (λ c κs. search needs)
-    (λ c κs. search needs)
-    (λ c κs. search needs)
-    (λ c κs. search needs)
-    sub-t13
-    cast-t14
-    add-t15
+    first-failing-requires
+    fallen-requires
+    fallen-requires-2
+    sub-t11
+    cast-t12
+    add-t13
     returns
-    returns-2
-    returns-3)
+    returns-2)

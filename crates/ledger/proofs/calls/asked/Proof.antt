@@ -40,14 +40,14 @@ go-on-requires c κs =
     let d = c .before .before .before .admission .ensures in
     let p = not-refused _ _ _ (λ e. c .before .before .if1 .left (d ∙ e)) (λ e. c .before .if2 .left (d ∙ e)) in
     let a = sound-when _ _ (p .0 .good) in
-    record { near = rw (c .beat-of .ensures) (a .near _); low = a .low; later = p .0 .later }
+    record { spaced = rw (c .beat-of .ensures .is) (c .beat-of .ensures .spaced); low = a .low; later = p .0 .later }
 
 returns-3 : tie.Need-returns-3
 unfolding askedOf firstOf ledgerOf
 returns-3 c =
     let d = c .before .before .before .before .admission .ensures in
     let p = not-refused _ _ _ (λ e. c .before .before .before .if1 .left (d ∙ e)) (λ e. c .before .before .if2 .left (d ∙ e)) in
-    rw (p .1 _, or-none, ← c .before .beat-of .ensures) (c .go-on .ensures)
+    rw (p .1 _, or-none, ← c .before .beat-of .ensures .is) (c .go-on .ensures)
 
 pub asked-spec : {M : Type 1} → statement M
 asked-spec =

@@ -3,7 +3,7 @@ use mathlib.Core.Path.{sym, _∙_}
 use native.Mathlib.Omega.{arith}
 use borrow.Author.Tests.{not-true, not-false}
 use borrow.Author.Needs.{needs}
-use Rattle.ledger.proofs.Enters.{stands-there, refused-before, cycle-before, near-before, comes-there}
+use Rattle.ledger.proofs.Enters.{stands-there, refused-before, cycle-before, comes-there}
 use Rattle.ledger.proofs.entering.at_stamp.Statement.{statement}
 use Rattle.ledger.proofs.entering.at_stamp.Tie as tie
 
@@ -18,11 +18,10 @@ returns-2 c =
 next-requires : tie.Need-next-requires
 next-requires c κs =
     let r = c .before .before in
-    let n = sym (c .before .done .ensures) ∙ not-false _ (c .if2 .left) in
     record {
-      near = near-before _ _ _ _ (r .reach2 .ensures .left) (r .before .before .before .args .stamp) (omega arith) n (omega arith) (r .before .before .before .pre .near);
+      spaced = r .before .before .before .pre .spaced;
       low = r .reach2 .ensures .low;
-      next = cycle-before _ _ _ _ (r .reach2 .ensures .left) _ (omega arith) n;
+      next = cycle-before _ _ _ _ (r .reach2 .ensures .left) _ (omega arith) (sym (c .before .done .ensures) ∙ not-false _ (c .if2 .left));
     }
 
 returns-3 : tie.Need-returns-3

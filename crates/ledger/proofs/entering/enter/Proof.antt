@@ -3,10 +3,8 @@ use mathlib.Core.Path.{sym, _∙_}
 use borrow.Author.Tests.{not-true, not-false}
 use borrow.Author.Needs.{needs}
 use Rattle.rules.specs.Folds.{orElse}
-use Rattle.rules.specs.Lent as lent
-use Rattle.ledger.specs.Values.{effectOf}
 use Rattle.ledger.specs.Parts.{accountOf, newOf}
-use Rattle.ledger.proofs.Enters.{refused-left, stood-left}
+use Rattle.ledger.proofs.Enters.{refused-left, stood-left, entered-there}
 use Rattle.ledger.proofs.entering.enter.Statement.{statement}
 use Rattle.ledger.proofs.entering.enter.Tie as tie
 
@@ -28,10 +26,10 @@ kept-requires : tie.Need-kept-requires
 kept-requires c κs = search needs
 
 returns-2 : tie.Need-returns-2
-unfolding accountOf newOf orElse lent.entered effectOf
+unfolding accountOf newOf orElse
 returns-2 c =
     let p = stood-left _ _ _ _ (c .before .before .before .before .at-stamp .ensures) (sym (c .before .before .before .done .ensures) ∙ not-false _ (c .before .before .if1 .left)) in
-    rw (p .0, ← p .1, ← c .before .changed .ensures) (c .kept .ensures)
+    rw (p .0, ← entered-there, ← p .1, ← c .before .changed .ensures) (c .kept .ensures)
 
 pub enter-spec : {M : Type 1} → statement M
 enter-spec =

@@ -1,5 +1,6 @@
 -- 19 and 20 at the cycle where a ledger stands.
 use mathlib.Core.Path.{refl}
+use native.Mathlib.Omega.{arith}
 use borrow.Author.Needs.{needs}
 use Rattle.ledger.specs.Values.{refusalOf}
 use Rattle.ledger.specs.Parts.{beatAs}
@@ -11,6 +12,14 @@ use Rattle.ledger.proofs.entering.kept.Tie as tie
 returns : tie.Need-returns
 unfolding refusalOf
 returns c = rw (c .told .ensures) (refused-as _ _ (told-failing _ _ _ (fails-19 _ _ (c .before .if1 .taken))) _ _ refl _)
+
+mul-if2 : tie.Need-mul-if2
+unfolding beatAs
+mul-if2 c = omega (arith, c .before .before .before .before .before .pre .small)
+
+add-if2 : tie.Need-add-if2
+unfolding beatAs
+add-if2 c = omega (arith, c .before .before .before .before .before .pre .small)
 
 returns-2 : tie.Need-returns-2
 unfolding refusalOf beatAs
@@ -33,9 +42,8 @@ kept-spec =
     (λ c κs. search needs)
     returns
     (λ c. search needs)
-    (λ c. search needs)
-    (λ c. search needs)
-    (λ c. search needs)
+    mul-if2
+    add-if2
     (λ c κs. search needs)
     (λ c. search needs)
     (λ c κs. search needs)

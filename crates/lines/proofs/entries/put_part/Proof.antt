@@ -22,6 +22,10 @@ returns-4 : tie.Need-returns-4
 unfolding shownPart whoseOf
 returns-4 c = (rw (c .before .before .before .before .before .enum-told4 .given .1) (c .before .before .put-text3 .ensures), omega arith)
 
+returns-5 : tie.Need-returns-5
+unfolding shownPart whoseOf
+returns-5 c = (rw (c .enum-told5 .given .1) put-nothing, omega arith)
+
 pub put-part-spec : {M : Type 1} → statement M
 put-part-spec =
     tie.close
@@ -36,10 +40,12 @@ put-part-spec =
     (λ c. search needs)
     (λ c. search needs)
     (λ c κs. search needs)
+    (λ c. search needs)
     returns
     (λ c. search needs)
     returns-2
     (λ c. search needs)
     returns-3
     (λ c. search needs)
-    returns-4)
+    returns-4
+    returns-5)

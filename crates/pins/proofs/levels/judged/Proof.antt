@@ -25,6 +25,9 @@ enum-told-2 c = search needs
 enum-told-3 : tie.Need-enum-told-3
 enum-told-3 c = search needs
 
+enum-told-4 : tie.Need-enum-told-4
+enum-told-4 c = search needs
+
 returns : tie.Need-returns
 unfolding entries.judgedAs commandOf readOf
 returns c = cc
@@ -45,6 +48,10 @@ returns-5 : tie.Need-returns-5
 unfolding entries.judgedAs commandOf readOf
 returns-5 c = cc
 
+returns-6 : tie.Need-returns-6
+unfolding entries.judgedAs commandOf readOf
+returns-6 c = cc
+
 pub judged-spec : {M : Type 1} → statement M
 judged-spec =
     tie.close
@@ -56,8 +63,10 @@ judged-spec =
     enum-told
     enum-told-2
     enum-told-3
+    enum-told-4
     returns
     returns-2
     returns-3
     returns-4
-    returns-5)
+    returns-5
+    returns-6)

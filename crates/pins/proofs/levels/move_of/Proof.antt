@@ -19,6 +19,9 @@ enum-told-3 c = search needs
 enum-told-4 : tie.Need-enum-told-4
 enum-told-4 c = search needs
 
+enum-told-5 : tie.Need-enum-told-5
+enum-told-5 c = search needs
+
 returns : tie.Need-returns
 unfolding entries.moveOf movedOf readOf
 returns c = cc
@@ -39,6 +42,10 @@ returns-5 : tie.Need-returns-5
 unfolding entries.moveOf movedOf readOf
 returns-5 c = cc
 
+returns-6 : tie.Need-returns-6
+unfolding entries.moveOf movedOf readOf
+returns-6 c = cc
+
 pub move-of-spec : {M : Type 1} → statement M
 move-of-spec =
     tie.close
@@ -48,8 +55,10 @@ move-of-spec =
     enum-told-2
     enum-told-3
     enum-told-4
+    enum-told-5
     returns
     returns-2
     returns-3
     returns-4
-    returns-5)
+    returns-5
+    returns-6)

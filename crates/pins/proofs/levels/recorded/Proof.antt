@@ -22,6 +22,9 @@ enum-told-3 c = search needs
 enum-told-4 : tie.Need-enum-told-4
 enum-told-4 c = search needs
 
+enum-told-5 : tie.Need-enum-told-5
+enum-told-5 c = search needs
+
 returns : tie.Need-returns
 unfolding entries.recordedAs commandOf readOf
 returns c = cc
@@ -42,6 +45,10 @@ returns-5 : tie.Need-returns-5
 unfolding entries.recordedAs commandOf readOf
 returns-5 c = cc
 
+returns-6 : tie.Need-returns-6
+unfolding entries.recordedAs commandOf readOf
+returns-6 c = cc
+
 pub recorded-spec : {M : Type 1} → statement M
 recorded-spec =
     tie.close
@@ -52,8 +59,10 @@ recorded-spec =
     enum-told-2
     enum-told-3
     enum-told-4
+    enum-told-5
     returns
     returns-2
     returns-3
     returns-4
-    returns-5)
+    returns-5
+    returns-6)

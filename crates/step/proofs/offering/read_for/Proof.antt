@@ -1,11 +1,14 @@
 -- At the level of the share that is its own.
 use mathlib.Core.Path.{_∙_}
 use borrow.Author.Needs.{needs}
+use Rattle.rules.specs.Entries.{readBody}
+use Rattle.card.specs.Values.{cardOf}
 use Rattle.step.proofs.Offered.{read-so}
 use Rattle.step.proofs.offering.read_for.Statement.{statement}
 use Rattle.step.proofs.offering.read_for.Tie as tie
 
 returns : tie.Need-returns
+unfolding readBody cardOf
 returns c = (rw (c .before .before .own .ensures) at (c .read-pins .ensures .is)) ∙ read-so _ _ _
 
 pub read-for-spec : {M : Type 1} → statement M

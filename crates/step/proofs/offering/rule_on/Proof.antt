@@ -11,7 +11,7 @@ returns c =
     let paid = other .before .before in
     let ledgers = paid .before in
     let effect = ledgers .before in
-    let own = effect .before .before in
+    let own = effect .before in
     ruled-so _ _ _ _ _ _ _
     (rw (ledgers .ledgers-of .ensures, effect .effect-of .ensures, own .own .ensures) at (paid .entered .ensures))
     (rw (other .theirs .ensures, own .own .ensures) at (c .ruled .ensures))

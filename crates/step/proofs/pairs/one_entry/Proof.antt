@@ -2,7 +2,7 @@
 use mathlib.Core.Path.{sym, _∙_}
 use borrow.Author.Needs.{needs}
 use borrow.Author.Tests.{not-true, not-false}
-use Rattle.rules.specs.Entries.{read, whoseOf, partIn}
+use Rattle.rules.specs.Entries.{readBody, read, whoseBody, whoseOf, partIn}
 use Rattle.rules.specs.Lent.{ownIn, readIn, commandIn, moveIn, effectOf, effectIn}
 use Rattle.card.specs.Values.{cardOf}
 use Rattle.bank.specs.Values.{lentOf}
@@ -20,7 +20,7 @@ returns c =
     (none-there _ _ _ (found .before .before .pre) (rw (← found .entry-at .ensures) (not-true _ (c .before .if1 .taken))))
 
 returns-2 : tie.Need-returns-2
-unfolding readIn read ownIn partIn whoseOf readOn lentOf cardOf
+unfolding readIn read readBody ownIn partIn whoseOf whoseBody readOn lentOf cardOf
 returns-2 c =
     let judged = c .before .before .before in
     let reads = judged .before in
@@ -34,7 +34,7 @@ returns-2 c =
     (sym (c .before .before .taken .ensures) ∙ not-true _ (c .before .if2 .taken)))
 
 returns-3 : tie.Need-returns-3
-unfolding readIn read ownIn partIn whoseOf readOn commandIn moveIn effectIn effectOf commandsBy refreshesBy lentOf cardOf
+unfolding readIn read readBody ownIn partIn whoseOf whoseBody readOn commandIn moveIn effectIn effectOf commandsBy refreshesBy lentOf cardOf
 returns-3 c =
     let then = c .before .before in
     let own = then .before in

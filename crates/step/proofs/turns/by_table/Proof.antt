@@ -52,7 +52,7 @@ returns-3 : tie.Need-returns-3
 returns-3 c =
     let share = c .before .before in
     let last = share .before in
-    let moves = last .before .before .before in
+    let moves = last .before .before .before .before in
     let told = moves .before .before .before in
     let ruled = told .before in
     seen-taken (start ruled .pre) (seen ruled)

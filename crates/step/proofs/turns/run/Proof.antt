@@ -11,11 +11,11 @@ use Rattle.step.proofs.Joining.{unsound, ready-of}
 use Rattle.step.proofs.turns.run.Statement.{statement}
 use Rattle.step.proofs.turns.run.Tie as tie
 
-abbrev start : tie.After-delays-of → tie.Start
+abbrev start : tie.After-delays-at → tie.Start
 start c = c .before .before .before .before
 
-ready : (c : tie.After-delays-of) → Prepared (start c .args .rec) (c .delays-of .result)
-ready c = prepared _ _ (sym (c .before .before .good2 .ensures) ∙ not-false _ (c .before .if1 .left)) (c .delays-of .ensures)
+ready : (c : tie.After-delays-at) → Prepared (start c .args .rec) (c .delays-at .result)
+ready c = prepared _ _ (sym (c .before .before .good2 .ensures) ∙ not-false _ (c .before .if1 .left)) (c .delays-at .ensures)
 
 returns : tie.Need-returns
 returns c = c .nothing .ensures ∙ unsound _ _ _ (sym (c .before .before .good2 .ensures) ∙ not-true _ (c .before .if1 .taken))

@@ -12,7 +12,7 @@ use Rattle.step.proofs.turns.turn.Tie as tie
 arrays : (c : tie.Start) → ShareWhole (c .args .part .rec .share)
 arrays c =
     let r = c .args .part .rec in
-    let share = c .good .0 .1 .1 .0 .1 .1 .1 .1 .0 .1 .1 in
+    let share = c .good .0 .1 .1 .0 .1 .1 .1 .1 .1 .0 .1 .1 in
     let banks = share .1 .1 .1 .1 .1 .1 .0 .1 .1 in
     let refpb = banks .1 .0 .1 .1 in
     let pre = banks .1 .1 .0 .1 .1 in
