@@ -27,18 +27,12 @@ pub fn is_hot(mr4: u8) -> bool
 pub fn quarters(mr4: u8) -> u64
     ensures { λ r. ⌜ (r ≡ paper.quarters (paper.heat mr4)) × (r ≤ 16) ⌝ }
 {
-    let code = heat(mr4);
-    if code == 0b001 {
-        return 16;
+    match heat(mr4) {
+        0b001 => 16,
+        0b010 => 8,
+        0b100 => 2,
+        0b101 => 1,
+        0b110 => 1,
+        _ => 4,
     }
-    if code == 0b010 {
-        return 8;
-    }
-    if code == 0b100 {
-        return 2;
-    }
-    if (code == 0b101) | (code == 0b110) {
-        return 1;
-    }
-    4
 }

@@ -1,15 +1,15 @@
 -- The closed form that the code computes, against the account of the rules.
-use Prim.Native.Nat.{ℕ, zero, suc, _+_, _-_, _*_, _/_, _%_, _^_, _≤_, _<_, max}
-use mathlib.Core.Path.{_≡_, refl, ap, sym, _∙_}
+use Prim.Native.Nat.{ℕ, suc, _+_, _-_, _*_, _/_, _^_, _≤_, _<_, max}
+use mathlib.Core.Path.{_≡_, ap, sym, _∙_}
 use mathlib.Core.Logic.{⊎-elim}
-use mathlib.Core.Bool.{true, false, cond}
+use mathlib.Core.Bool.{Bool, true, false, cond}
 use mathlib.Core.Option.{none, some}
-use native.Mathlib.Nat.{min-eq-left, min-eq-right, div-mul-le-self, div-eq-of-lt, add-div-right, mod-eq-of-lt, add-mod-right, mul-le-mul-right, le-of-lt}
+use native.Mathlib.Nat.{min-eq-left, min-eq-right, add-mul, div-mul-le-self, div-eq-of-lt, add-div-right, mul-le-mul-right, le-of-lt}
 use native.Mathlib.Omega.{arith}
-use lib.Dec.{leb, eqb}
+use lib.Dec.{leb}
 use lib.IntN.{subℕ}
-use borrow.Author.Tests.{le-leb, lt-leb, ne-eqb}
-use Rattle.rules.specs.Account.{lpddr3, isDue, Beat, onBeat, fallen, nextAfter, steady, idle, firstIdle}
+use borrow.Author.Tests.{le-leb, lt-leb}
+use Rattle.rules.specs.Account.{lpddr3, Beat, fallen, nextAfter, steady, idle, firstIdle}
 use Rattle.rules.proofs.Tests.{le-cases}
 use Rattle.rules.proofs.Dues.{next-later, fallen-up, due-by}
 use Rattle.rules.proofs.Idle.{owedAt, next19, next20, after20, firstNext, idle-beat, idle-closed}
@@ -17,16 +17,10 @@ use Rattle.ledger.specs.declared.account.First.{First}
 use Rattle.ledger.specs.declared.account.Idle.{Idle}
 use Rattle.ledger.specs.declared.account.Idle.the-variants.{Stands, Breaks}
 use Rattle.ledger.specs.Values.{overAt, lateAt, closedAt}
-use Rattle.ledger.specs.Parts.{Spaced, FirstAs, stands, breaks, outcome, idleTo}
-
-pub stands-tell : {x y : ℕ} → Path Idle (Stands x) (Stands y) → x ≡ y
-stands-tell e = cc
+use Rattle.ledger.specs.Parts.{Spaced, FirstAs, stands, breaks, outcome, below, tested, idleTo}
 
 pub breaks-tell : {q m p n : ℕ} → Path Idle (Breaks q m) (Breaks p n) → m ≡ n
 breaks-tell e = cc
-
-pub not-stands : {q t y : ℕ} → Path Idle (Breaks q t) (Stands y) → ⊥
-not-stands e = let n : _≡_ {A = ℕ} 0 1 = cc in omega arith
 
 pub not-breaks : {q t y : ℕ} → Path Idle (Stands y) (Breaks q t) → ⊥
 not-breaks e = let n : _≡_ {A = ℕ} 0 1 = cc in omega arith
@@ -41,14 +35,6 @@ module _ (b : Beat) (n : ℕ) (a : Spaced b) where
   unfolding fallen
   fallen-none h = sym (div-eq-of-lt (omega (arith, a .some)))
 
-  pub none-on-beat : n < b .next → false ≡ onBeat b n
-  unfolding onBeat isDue
-  none-on-beat h = sym (short (n + I - b .next) (omega (arith, a .some)))
-    where
-      short : (x : ℕ) → x < I → isDue I x ≡ false
-      short zero l = refl
-      short (suc x) l = rw (mod-eq-of-lt l) (ne-eqb (suc x) 0 (omega arith))
-
   module _ (h : b .next ≤ n) where
     past : n + I - b .next ≡ n - b .next + I
     past = omega arith
@@ -56,14 +42,6 @@ module _ (b : Beat) (n : ℕ) (a : Spaced b) where
     pub fallen-some : (n - b .next) / I + 1 ≡ fallen b n
     unfolding fallen
     fallen-some = rw past (sym (add-div-right (n - b .next) (a .some)))
-
-    pub on-beat-some : eqb ((n - b .next) % I) 0 ≡ onBeat b n
-    unfolding onBeat isDue
-    on-beat-some = rw past (sym (whole (n - b .next + I) (omega (arith, a .some)) ∙ ap (λ (x : ℕ). eqb x 0) (add-mod-right (n - b .next) I)))
-      where
-        whole : (x : ℕ) → 0 < x → isDue I x ≡ eqb (x % I) 0
-        whole zero l = absurd (omega arith)
-        whole (suc x) l = refl
 
   -- the next due after a number is that one or at most a span away, and some more still fit
   past-near : fallen b n * I ≤ n + I - b .next
@@ -138,6 +116,38 @@ closed-ahead b s o last p = omega (arith, next-later b p s)
 pub closed-from : (b : Beat) (s o last x : ℕ) → x ≡ closedAt b s o last → 0 < b .span → s < x
 closed-from b s o last x e p = rw e (closed-ahead b s o last p)
 
+-- the first number that fails
+module _ (b : Beat) (s o last : ℕ) (positive : 0 < b .span) (low : o ≤ 16) where
+  abbrev rule : ℕ
+  rule = cond (leb (overAt b s o) (lateAt (b .span) s last)) 19 20
+
+  first : (j : ℕ) → firstIdle lpddr3 (steady b) (subℕ o 8) last s s j ≡ firstNext lpddr3 (overAt b s o) (lateAt (b .span) s last) (suc (s + j))
+  unfolding lpddr3 next19 next20 after20
+  first j =
+      let y : max (suc s) (last + 9 * b .span + 1) ≡ lateAt (b .span) s last = omega arith in
+      let e : firstIdle lpddr3 (steady b) (subℕ o 8) last s s j ≡ firstNext lpddr3 (overAt b s o) (max (suc s) (last + 9 * b .span + 1)) (suc (s + j)) =
+      idle-closed b positive lpddr3 s o last low j in
+      rw y at e
+
+  pub none-by : (j : ℕ) → s + j < closedAt b s o last → firstIdle lpddr3 (steady b) (subℕ o 8) last s s j ≡ none
+  unfolding firstNext
+  none-by j h = first j ∙ rw (le-leb (suc (s + j)) (closedAt b s o last) h)
+
+  -- it is at the first of the two numbers, 19 where they are one
+  pub fails-by : (j : ℕ) → closedAt b s o last ≤ s + j → firstIdle lpddr3 (steady b) (subℕ o 8) last s s j ≡ some (rule, closedAt b s o last)
+  unfolding firstNext lpddr3
+  fails-by j h = first j ∙ rw (lt-leb (suc (s + j)) (closedAt b s o last) (omega arith))
+
+below-least : (x : Bool) (t : ℕ) → t ≤ below x t
+unfolding below
+below-least true t = omega arith
+below-least false t = omega arith
+
+below-most : (x : Bool) (t : ℕ) → below x t ≤ suc t
+unfolding below
+below-most true t = omega arith
+below-most false t = omega arith
+
 module _ (b : Beat) (s o to : ℕ) (positive : 0 < b .span) (low : o ≤ 16) (later : s ≤ to) where
   whole : s + (to - s) ≡ to
   whole = omega (arith, later)
@@ -145,59 +155,50 @@ module _ (b : Beat) (s o to : ℕ) (positive : 0 < b .span) (low : o ≤ 16) (la
   pub past-le : fallen b s ≤ fallen b to
   past-le = fallen-up b positive s to later
 
-  -- before 19 fails the ledger is within its limit
-  pub within : to < overAt b s o → o + (fallen b to - fallen b s) ≤ 16
-  within h = ⊎-elim
-      (λ (q : (suc (fallen b s + (16 - o)) ≤ fallen b to) × (leb (suc (fallen b s + (16 - o))) (fallen b to) ≡ true)).
-      absurd (clash (due-by b positive s (16 - o) to (q .0))))
-      (λ (q : (fallen b to < suc (fallen b s + (16 - o))) × (leb (suc (fallen b s + (16 - o))) (fallen b to) ≡ false)). omega (arith, past-le, low))
-      (le-cases (suc (fallen b s + (16 - o))) (fallen b to))
+  few : (k : ℕ) → to < nextAfter b s + k * b .span → fallen b to ≤ fallen b s + k
+  few k h = ⊎-elim
+      (λ (q : (suc (fallen b s + k) ≤ fallen b to) × (leb (suc (fallen b s + k)) (fallen b to) ≡ true)). absurd (clash (due-by b positive s k to (q .0))))
+      (λ (q : (fallen b to < suc (fallen b s + k)) × (leb (suc (fallen b s + k)) (fallen b to) ≡ false)). omega arith)
+      (le-cases (suc (fallen b s + k)) (fallen b to))
     where
-      clash : overAt b s o ≤ to → ⊥
+      clash : nextAfter b s + k * b .span ≤ to → ⊥
       clash r = omega arith
 
+  -- before 19 fails the ledger is within its limit, and where it does fail one more
+  pub within : to < overAt b s o → o + (fallen b to - fallen b s) ≤ 16
+  within h = omega (arith, low, few (16 - o) h)
+
+  within-one : to ≤ overAt b s o → o + (fallen b to - fallen b s) ≤ 17
+  within-one h =
+      let e : (16 - o + 1) * b .span ≡ (16 - o) * b .span + 1 * b .span = add-mul (16 - o) 1 (b .span) in
+      omega (arith, low, few (16 - o + 1) (rw e (omega (arith, positive))))
+
   module _ (last : ℕ) where
-    first : firstIdle lpddr3 (steady b) (subℕ o 8) last s s (to - s) ≡ firstNext lpddr3 (overAt b s o) (lateAt (b .span) s last) (suc to)
-    unfolding lpddr3 next19 next20 after20
-    first =
-        let y : max (suc s) (last + 9 * b .span + 1) ≡ lateAt (b .span) s last = omega arith in
-        let e : firstIdle lpddr3 (steady b) (subℕ o 8) last s s (to - s) ≡ firstNext lpddr3 (overAt b s o) (max (suc s) (last + 9 * b .span + 1)) (suc (s + (to - s))) =
-        idle-closed b positive lpddr3 s o last low (to - s) in
-        rw (y, whole) at e
+    none-tested : (x : Bool) → below x to ≤ closedAt b s o last → firstIdle lpddr3 (steady b) (subℕ o 8) last s s (tested x (to - s)) ≡ none
+    unfolding below tested
+    none-tested true h = none-by b s o last positive low (to - s) (omega (arith, later))
+    none-tested false h = none-by b s o last positive low (to - s - 1) (omega (arith, later, closed-ahead b s o last positive))
 
-    pub none-yet : to < closedAt b s o last → firstIdle lpddr3 (steady b) (subℕ o 8) last s s (to - s) ≡ none
-    unfolding firstNext
-    none-yet h = first ∙ rw (le-leb (suc to) (closedAt b s o last) h)
-
-    stands-so : to < closedAt b s o last → idleTo b s o last (to - s) ≡ stands (subℕ (o + (fallen b to - fallen b s)) 8)
-    unfolding idleTo outcome owedAt
-    stands-so h =
-        let z : idle 8 (steady b) (subℕ o 8) s (to - s) ≡ subℕ (o + (fallen b (s + (to - s)) - fallen b s)) 8 = idle-beat b positive 8 o s (to - s) in
-        rw (none-yet h) (ap stands (rw whole at z))
-
-    -- it is at the first of the two numbers, 19 where they are one
-    pub fails-there : closedAt b s o last ≤ to
-        → firstIdle lpddr3 (steady b) (subℕ o 8) last s s (to - s) ≡ some (cond (leb (overAt b s o) (lateAt (b .span) s last)) 19 20, closedAt b s o last)
-    unfolding firstNext lpddr3
-    fails-there h = first ∙ rw (lt-leb (suc to) (closedAt b s o last) (omega arith))
-
-    broken : closedAt b s o last ≤ to → idleTo b s o last (to - s) ≡ breaks (cond (leb (overAt b s o) (lateAt (b .span) s last)) 19 20) (closedAt b s o last)
-    unfolding idleTo outcome
-    broken h = rw (fails-there h)
+    fails-tested : (x : Bool) → closedAt b s o last < below x to →
+        firstIdle lpddr3 (steady b) (subℕ o 8) last s s (tested x (to - s)) ≡ some (rule b s o last positive low, closedAt b s o last)
+    unfolding below tested
+    fails-tested true h = fails-by b s o last positive low (to - s) (omega (arith, later))
+    fails-tested false h = fails-by b s o last positive low (to - s - 1) (omega (arith, later))
 
     -- by the first that the code finds; a number that fails is one of those passed
-    module _ (r : First) (f : FirstAs b s o last r) where
-      stands-first : to < r .number → to < closedAt b s o last
-      stands-first h = rw (f .number-is) at h
+    module _ (x : Bool) (r : First) (f : FirstAs b s o last r) where
+      pub within-first : below x to ≤ r .number → (y z : ℕ) → y ≡ fallen b to → z ≡ fallen b s → o + (y - z) ≤ 17
+      within-first h y z ey ez = rw (ey, ez) (within-one (omega (arith, below-least x to, f .number-is)))
 
-      pub within-first : to < r .number → (x y : ℕ) → x ≡ fallen b to → y ≡ fallen b s → o + (x - y) ≤ 16
-      within-first h x y ex ey = rw (ex, ey) (within (omega (arith, stands-first h)))
+      pub stands-as : below x to ≤ r .number → (y z : ℕ) → y ≡ fallen b to → z ≡ fallen b s → stands (subℕ (o + (y - z)) 8) ≡ idleTo x b s o last (to - s)
+      unfolding idleTo outcome owedAt
+      stands-as h y z ey ez =
+          let e : idle 8 (steady b) (subℕ o 8) s (to - s) ≡ subℕ (o + (fallen b (s + (to - s)) - fallen b s)) 8 = idle-beat b positive 8 o s (to - s) in
+          rw (ey, ez, none-tested x (rw (f .number-is) at h)) (sym (ap stands (rw whole at e)))
 
-      pub stands-as : to < r .number → (x y : ℕ) → x ≡ fallen b to → y ≡ fallen b s → stands (subℕ (o + (x - y)) 8) ≡ idleTo b s o last (to - s)
-      stands-as h x y ex ey = rw (ex, ey) (sym (stands-so (stands-first h)))
+      pub breaks-as : r .number < below x to → breaks (r .rule) (r .number) ≡ idleTo x b s o last (to - s)
+      unfolding idleTo outcome
+      breaks-as h = rw (f .rule-is, f .number-is, fails-tested x (rw (f .number-is) at h))
 
-      pub breaks-as : r .number ≤ to → breaks (r .rule) (r .number) ≡ idleTo b s o last (to - s)
-      breaks-as h = rw (f .rule-is, f .number-is) (sym (broken (rw (f .number-is) at h)))
-
-      pub passed-as : r .number ≤ to → (s < r .number) × (r .number ≤ to)
-      passed-as h = (rw (f .number-is) (closed-ahead b s o last positive), h)
+      pub passed-as : r .number < below x to → (s < r .number) × (r .number ≤ to)
+      passed-as h = (rw (f .number-is) (closed-ahead b s o last positive), omega (arith, below-most x to))

@@ -27,7 +27,7 @@ use Rattle.ledger.specs.declared.Ledger.{Ledger}
 use Rattle.ledger.specs.declared.Pace.{Pace}
 use Rattle.ledger.specs.Values.{ledgerOf, paceOf, stored, codeOf, overAt, lateAt, closedAt, deadlineBy, deadlineOf}
 use Rattle.ledger.proofs.Admission.{Sound, sound-when}
-use Rattle.ledger.proofs.Closing.{closed-ahead, past-le, within, none-yet, fails-there}
+use Rattle.ledger.proofs.Closing.{closed-ahead, past-le, within, none-by, fails-by}
 use Rattle.ledger.proofs.Promises.{stored-is, level-is}
 
 below : (x y : Bool) (n t : ℕ) → t < cond (x && not y) n 0 → (x ≡ true) × (y ≡ false) × (t < n)
@@ -92,20 +92,15 @@ module _ (card : Card) (pace : Pace) (g : Ledger) where
     is : deadlineOf card pace g ≡ g .at + (closed - n)
     is = sym (running ok runs) ∙ (unfold deadlineBy in refl)
 
-    from : (t : ℕ) → n ≤ n + (t - g .at)
-    from t = omega arith
-
     through : (t : ℕ) → failingTo b (ledgerOf g) (suc t)
-        ≡ relabel (λ m. g .at + (m - n)) (firstIdle lpddr3 (steady b) (subℕ (g .owed) 8) (g .since) n n (n + (t - g .at) - n))
+        ≡ relabel (λ m. g .at + (m - n)) (firstIdle lpddr3 (steady b) (subℕ (g .owed) 8) (g .since) n n (t - g .at))
     unfolding ledgerOf
-    through t =
-        let z : n + (t - g .at) - n ≡ t - g .at = omega arith in
-        rw z (rw (counts runs t) at (failing-through b (ledgerOf g) t))
+    through t = rw (counts runs t) at (failing-through b (ledgerOf g) t)
 
     none-until : (t : ℕ) → t < deadlineOf card pace g → failingTo b (ledgerOf g) (suc t) ≡ none
     none-until t h =
         let l : n + (t - g .at) < closed = omega (arith, is, ahead) in
-        through t ∙ rw (none-yet b n (g .owed) (n + (t - g .at)) spanned (s .low) (from t) (g .since) l) (unfold relabel in refl)
+        through t ∙ rw (none-by b n (g .owed) (g .since) spanned (s .low) (t - g .at) l) (unfold relabel in refl)
 
     not-yet : (t : ℕ) → t ≤ g .at → failingTo b (ledgerOf g) t ≡ none
     unfolding failingTo ledgerOf firstIdle
@@ -122,9 +117,8 @@ module _ (card : Card) (pace : Pace) (g : Ledger) where
     pub one-there : failingTo b (ledgerOf g) (suc (deadlineOf card pace g))
         ≡ some (cond (leb (overAt b n (g .owed)) (lateAt (b .span) n (g .since))) 19 20, deadlineOf card pace g)
     one-there =
-        let z : n + (g .at + (closed - n) - g .at) ≡ closed = omega (arith, ahead) in
-        let f : firstIdle lpddr3 (steady b) (subℕ (g .owed) 8) (g .since) n n (closed - n) ≡ some (cond (leb (overAt b n (g .owed)) (lateAt (b .span) n (g .since))) 19 20, closed) =
-        fails-there b n (g .owed) closed spanned (s .low) (omega (arith, ahead)) (g .since) (omega arith) in
+        let z : g .at + (closed - n) - g .at ≡ closed - n = omega arith in
+        let f = fails-by b n (g .owed) (g .since) spanned (s .low) (closed - n) (omega (arith, ahead)) in
         rw is (through (g .at + (closed - n)) ∙ rw (z, f) (unfold relabel in refl))
 
   -- 19 and 20 where it comes to stand

@@ -1,5 +1,5 @@
 -- What a ledger that is moved on comes to, as its promise says it.
-use Prim.Native.Nat.{ℕ, suc, _+_, _-_, _≤_}
+use Prim.Native.Nat.{ℕ, _+_, _-_, _≤_}
 use mathlib.Core.Path.{_≡_, refl, ap, sym, _∙_}
 use mathlib.Core.Bool.{Bool, true, false}
 use mathlib.Core.Option.{Option, none, some}
@@ -11,7 +11,7 @@ use Rattle.rules.specs.Account.{lpddr3, Beat, steady, idle, firstIdle}
 use Rattle.rules.specs.Lent.{numberOf, countedTo, ledgerTo, failingTo}
 use Rattle.rules.specs.Lent as lent
 use Rattle.rules.proofs.Clocked.{relabel}
-use Rattle.rules.proofs.Closed.{failing-through}
+use Rattle.rules.proofs.Closed.{firstAmong, failing-through, failing-below}
 use Rattle.rules.proofs.Ledgers.{counted-by}
 use Rattle.pins.specs.Values.{levelOf}
 use Rattle.ledger.specs.declared.Ledger.{Ledger}
@@ -21,7 +21,7 @@ use Rattle.ledger.specs.declared.Answer.{Answer}
 use Rattle.ledger.specs.declared.Answer.the-variants.{Done, Overdue}
 use Rattle.ledger.specs.declared.After.{After}
 use Rattle.ledger.specs.Values.{ledgerOf, refusalOf, unlessRefused, Left}
-use Rattle.ledger.specs.Parts.{stands, breaks, outcome, idleOf, idleTo, shifted}
+use Rattle.ledger.specs.Parts.{stands, breaks, outcome, idleOf, below, tested, idleTo, shifted}
 
 -- an outcome is one of the two, and tells the account apart
 told-stands : (z w : ℤ) (o : Option (ℕ × ℕ)) → outcome z o ≡ stands w → (z ≡ w) × (o ≡ none)
@@ -46,7 +46,7 @@ left-some : (o : Option (ℕ × ℕ)) {new : lent.Ledger} {g : Ledger} {q t : �
 unfolding named refusalOf unlessRefused
 left-some o e = record { told = rw e; ledger = rw e }
 
-module _ (g : Ledger) (b : Beat) (to : ℕ) where
+module _ (g : Ledger) (b : Beat) (to : ℕ) (x : Bool) where
   abbrev n : ℕ
   n = numberOf (ledgerOf g)
 
@@ -54,42 +54,44 @@ module _ (g : Ledger) (b : Beat) (to : ℕ) where
   c = countedTo (ledgerOf g) to
 
   abbrev MovedOn : After → Type 0
-  MovedOn = Left (named 11 (failingTo b (ledgerOf g) (suc to))) (ledgerOf g) (ledgerTo b (ledgerOf g) to)
+  MovedOn = Left (named 11 (failingTo b (ledgerOf g) (below x to))) (ledgerOf g) (ledgerTo b (ledgerOf g) to)
 
   same-cycles : n + c - n ≡ c
   same-cycles = omega arith
 
   -- through the numbers that count
-  shifts : (x : ℕ) → idle 8 (steady b) (subℕ (g .owed) 8) n c ≡ subℕ x 8 → ledgerOf (shifted g to x) ≡ ledgerTo b (ledgerOf g) to
+  shifts : (w : ℕ) → idle 8 (steady b) (subℕ (g .owed) 8) n c ≡ subℕ w 8 → ledgerOf (shifted g to w) ≡ ledgerTo b (ledgerOf g) to
   unfolding shifted ledgerTo ledgerOf lpddr3
-  shifts x e = λ i. record { at = to; owing = sym e i; since = g .since; skipped = to - (n + c); level = levelOf (g .level) }
+  shifts w e = λ i. record { at = to; owing = sym e i; since = g .since; skipped = to - (n + c); level = levelOf (g .level) }
 
-  failing : (o : Option (ℕ × ℕ)) → firstIdle lpddr3 (steady b) (subℕ (g .owed) 8) (g .since) n n c ≡ o →
-      failingTo b (ledgerOf g) (suc to) ≡ relabel (λ m. g .at + (m - n)) o
+  failing-by : (y : Bool) → failingTo b (ledgerOf g) (below y to) ≡ firstAmong b (ledgerOf g) (tested y c)
+  unfolding below tested
+  failing-by true = failing-through b (ledgerOf g) to
+  failing-by false = failing-below b (ledgerOf g) to
+
+  failing : (o : Option (ℕ × ℕ)) → firstIdle lpddr3 (steady b) (subℕ (g .owed) 8) (g .since) n n (tested x c) ≡ o →
+      failingTo b (ledgerOf g) (below x to) ≡ relabel (λ m. g .at + (m - n)) o
   unfolding ledgerOf
-  failing o e = failing-through b (ledgerOf g) to ∙ ap (relabel (λ m. g .at + (m - n))) e
+  failing o e = failing-by x ∙ ap (relabel (λ m. g .at + (m - n))) e
 
-  none-failing : (x : ℕ) → idleTo b n (g .owed) (g .since) (n + c - n) ≡ stands (subℕ x 8) → MovedOn (record { ledger = shifted g to x; answer = Done })
-  none-failing x e =
-      let e′ : outcome (idle 8 (steady b) (subℕ (g .owed) 8) n c) (firstIdle lpddr3 (steady b) (subℕ (g .owed) 8) (g .since) n n c) ≡ stands (subℕ x 8) = unfold idleTo in rw same-cycles at e in
+  none-failing : (w : ℕ) → idleTo x b n (g .owed) (g .since) (n + c - n) ≡ stands (subℕ w 8) → MovedOn (record { ledger = shifted g to w; answer = Done })
+  none-failing w e =
+      let e′ : outcome (idle 8 (steady b) (subℕ (g .owed) 8) n c) (firstIdle lpddr3 (steady b) (subℕ (g .owed) 8) (g .since) n n (tested x c)) ≡ stands (subℕ w 8) = unfold idleTo in rw same-cycles at e in
       let p = told-stands _ _ _ e′ in
-      let f : failingTo b (ledgerOf g) (suc to) ≡ none = failing none (p .1) ∙ (unfold relabel in refl) in
-      left-none (failingTo b (ledgerOf g) (suc to)) f (shifts x (p .0))
+      left-none _ (failing none (p .1) ∙ (unfold relabel in refl)) (shifts w (p .0))
 
-  one-failing : (q m : ℕ) → idleTo b n (g .owed) (g .since) (n + c - n) ≡ breaks q m → MovedOn (record { ledger = g; answer = Overdue q (g .at + (m - n)) })
+  one-failing : (q m : ℕ) → idleTo x b n (g .owed) (g .since) (n + c - n) ≡ breaks q m → MovedOn (record { ledger = g; answer = Overdue q (g .at + (m - n)) })
   one-failing q m e =
-      let e′ : outcome (idle 8 (steady b) (subℕ (g .owed) 8) n c) (firstIdle lpddr3 (steady b) (subℕ (g .owed) 8) (g .since) n n c) ≡ breaks q m = unfold idleTo in rw same-cycles at e in
-      let p = told-breaks _ q m _ e′ in
-      let f : failingTo b (ledgerOf g) (suc to) ≡ some (q, g .at + (m - n)) = failing (some (q, m)) p ∙ (unfold relabel in refl) in
-      left-some (failingTo b (ledgerOf g) (suc to)) f
+      let e′ : outcome (idle 8 (steady b) (subℕ (g .owed) 8) n c) (firstIdle lpddr3 (steady b) (subℕ (g .owed) 8) (g .since) n n (tested x c)) ≡ breaks q m = unfold idleTo in rw same-cycles at e in
+      left-some _ (failing (some (q, m)) (told-breaks _ q m _ e′) ∙ (unfold relabel in refl))
 
   -- as the code finds the two numbers
-  module _ (n′ c′ : ℕ) (en : n′ ≡ n) (ec : c′ ≡ c) (r : Idle) (done : idleOf r ≡ idleTo b n′ (g .owed) (g .since) (n′ + c′ - n′)) where
-    same : idleTo b n (g .owed) (g .since) (n + c - n) ≡ idleOf r
+  module _ (n′ c′ : ℕ) (en : n′ ≡ n) (ec : c′ ≡ c) (r : Idle) (done : idleOf r ≡ idleTo x b n′ (g .owed) (g .since) (n′ + c′ - n′)) where
+    same : idleTo x b n (g .owed) (g .since) (n + c - n) ≡ idleOf r
     same = sym (rw (en, ec) at done)
 
-    pub stands-moved : (x : ℕ) → r ≡ Stands x → MovedOn (record { ledger = shifted g to x; answer = Done })
-    stands-moved x e = none-failing x (same ∙ (unfold idleOf in rw e))
+    pub stands-moved : (w : ℕ) → r ≡ Stands w → MovedOn (record { ledger = shifted g to w; answer = Done })
+    stands-moved w e = none-failing w (same ∙ (unfold idleOf in rw e))
 
     pub breaks-told : (q m : ℕ) → r ≡ Breaks q m → MovedOn (record { ledger = g; answer = Overdue q (g .at + (m - n′)) })
     breaks-told q m e = rw en (one-failing q m (same ∙ (unfold idleOf in rw e)))

@@ -3,23 +3,22 @@ use Prim.Native.Nat.{ℕ, suc, _+_, _-_, _^_, _≤_, _<_}
 use mathlib.Core.Path.{_≡_}
 use mathlib.Core.List.{[], _∷_}
 use mathlib.Core.Option.{Option, none, some}
-use mathlib.Core.Bool.{Bool, true, false, cond, not, _&&_}
+use mathlib.Core.Bool.{Bool, true, false, cond}
 use lib.Dec.{leb}
 use lib.IntN.{ℤ, subℕ}
 use Rattle.rules.specs.Card.{Card}
-use Rattle.rules.specs.Levels.{stopped, levelAfter}
+use Rattle.rules.specs.Levels.{levelAfter}
 use Rattle.rules.specs.Folds.{orElse, firstOf}
-use Rattle.rules.specs.Account.{lpddr3, steady, onBeat, idle, firstIdle}
+use Rattle.rules.specs.Account.{lpddr3, steady, idle, firstIdle}
 use Rattle.rules.specs.Account as paper
 use Rattle.rules.specs.Checks.{Refusal, unless, named}
 use Rattle.rules.specs.Lent as lent
 use Rattle.ledger.specs.declared.Ledger.{Ledger}
-use Rattle.ledger.specs.declared.After.{After}
 use Rattle.ledger.specs.declared.account.Beat.{Beat}
 use Rattle.ledger.specs.declared.account.First.{First}
 use Rattle.ledger.specs.declared.account.Idle.{Idle}
 use Rattle.ledger.specs.declared.account.Idle.the-variants.{Stands, Breaks}
-use Rattle.ledger.specs.Values.{ledgerOf, overAt, lateAt, closedAt, Left}
+use Rattle.ledger.specs.Values.{ledgerOf, overAt, lateAt, closedAt}
 
 unfoldable pub beatAs : Beat → paper.Beat
 beatAs b = record { next = b .next; span = b .span }
@@ -48,8 +47,18 @@ unfoldable pub idleOf : Idle → Outcome
 idleOf (Stands x) = stands (subℕ x 8)
 idleOf (Breaks q t) = breaks q t
 
-unfoldable pub idleTo : paper.Beat → (n owed since j : ℕ) → Outcome
-idleTo b n owed since j = outcome (idle 8 (steady b) (subℕ owed 8) n j) (firstIdle lpddr3 (steady b) (subℕ owed 8) since n n j)
+-- 19 and 20 are asked below this place: through t also at it, up to t not
+unfoldable pub below : (through : Bool) → ℕ → ℕ
+below true t = suc t
+below false t = t
+
+-- at so many of j numbers
+unfoldable pub tested : (through : Bool) → ℕ → ℕ
+tested true j = j
+tested false j = j - 1
+
+unfoldable pub idleTo : (through : Bool) → paper.Beat → (n owed since j : ℕ) → Outcome
+idleTo x b n owed since j = outcome (idle 8 (steady b) (subℕ owed 8) n j) (firstIdle lpddr3 (steady b) (subℕ owed 8) since n n (tested x j))
 
 -- what is asked where the dues up to the limit are added to the next one
 pub record OverArgs (b : paper.Beat) (owed : ℕ) : Type 0 where
@@ -69,10 +78,9 @@ pub record IdleArgs (b : paper.Beat) (n owed to : ℕ) : Type 0 where
   pub low : owed ≤ 16
   pub later : n ≤ to
 
--- the ledger that stands is within the limit; a number that fails is one of those passed
-pub record IdleDone (b : paper.Beat) (n owed since to : ℕ) (r : Idle) : Type 0 where
-  pub is : idleOf r ≡ idleTo b n owed since (to - n)
-  pub low : (x : ℕ) → r ≡ Stands x → x ≤ 16
+-- a number that fails is one of those passed
+pub record IdleDone (b : paper.Beat) (n owed since to : ℕ) (through : Bool) (r : Idle) : Type 0 where
+  pub is : idleOf r ≡ idleTo through b n owed since (to - n)
   pub passed : (q m : ℕ) → r ≡ Breaks q m → (n < m) × (m ≤ to)
 
 -- a cycle from the ledger's own on
@@ -94,21 +102,6 @@ pub record ReachArgs (g : Ledger) (b : paper.Beat) (to : ℕ) : Type 0 where
   pub spaced : Spaced b
   pub low : g .owed ≤ 16
   pub later : g .at ≤ to
-
--- moved on to cycle `to` or refused, and within the limit
-pub record Reached (g : Ledger) (b : paper.Beat) (to : ℕ) (r : After) : Type 0 where
-  pub left : Left (named 11 (lent.failingTo b (ledgerOf g) (suc to))) (ledgerOf g) (lent.ledgerTo b (ledgerOf g) to) r
-  pub low : r .ledger .owed ≤ 16
-
--- a ledger as after the cycle before t
-pub record NextArgs (g : Ledger) (b : paper.Beat) (t : ℕ) : Type 0 where
-  pub spaced : Spaced b
-  pub low : g .owed ≤ 16
-  pub next : suc (g .at) ≡ t
-
--- whether the next cycle counts and a due is there
-unfoldable pub dueNext : paper.Beat → lent.Ledger → Bool
-dueNext b g = not (stopped (g .level)) && onBeat b (suc (lent.numberOf g))
 
 -- what an entry does where the ledger stands
 unfoldable pub changedBy : lent.Effect → lent.Ledger → lent.Ledger

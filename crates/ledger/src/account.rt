@@ -4,6 +4,7 @@ ghost use Prim.Native.Nat.{_≤_, _<_, _^_};
 ghost use Rattle.rules.specs.Account as paper;
 ghost use Rattle.ledger.specs.Values.{overAt, lateAt};
 ghost use Rattle.ledger.specs.Parts.{beatAs, Spaced, OverArgs, FirstAs, IdleArgs, IdleDone};
+ghost use Rattle.ledger.specs.Parts as parts;
 use card::greater;
 
 // Dues at number `next`, which may be any, and every `span` after it.
@@ -22,18 +23,6 @@ pub enum Idle {
 pub struct First {
     pub rule: u8,
     pub number: u64,
-}
-
-// Whether a due is at number n.
-pub fn on_beat(beat: Beat, n: u32) -> bool
-    requires { ⌜ Spaced (beatAs beat) ⌝ }
-    ensures { λ r. ⌜ r ≡ paper.onBeat (beatAs beat) n ⌝ }
-{
-    let m = n as u64;
-    if m < beat.next {
-        return false;
-    }
-    (m - beat.next) % beat.span == 0
 }
 
 // How many are at numbers up to n.
@@ -97,12 +86,23 @@ pub fn first_failing(beat: Beat, n: u32, owed: u8, since: u32) -> First
     }
 }
 
-pub fn idle_to(beat: Beat, n: u32, owed: u8, since: u32, to: u32) -> Idle
+// 19 and 20 are asked at the numbers below this one.
+fn below(to: u32, through: bool) -> u64
+    ensures { λ r. ⌜ r ≡ parts.below through to ⌝ }
+{
+    if through {
+        return to as u64 + 1;
+    }
+    to as u64
+}
+
+// Idle time up to number `to`, or through it.
+pub fn idle_to(beat: Beat, n: u32, owed: u8, since: u32, to: u32, through: bool) -> Idle
     requires { ⌜ IdleArgs (beatAs beat) n owed to ⌝ }
-    ensures { λ r. ⌜ IdleDone (beatAs beat) n owed since to r ⌝ }
+    ensures { λ r. ⌜ IdleDone (beatAs beat) n owed since to through r ⌝ }
 {
     let first = first_failing(beat, n, owed, since);
-    if (to as u64) < first.number {
+    if below(to, through) <= first.number {
         return Idle::Stands(owed + (fallen(beat, to) - fallen(beat, n)) as u8);
     }
     Idle::Breaks {

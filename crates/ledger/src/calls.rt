@@ -4,7 +4,7 @@ ghost use Rattle.rules.specs.Lent.{beatOf, moveRefusal, enterRefusal, movedOn};
 ghost use Rattle.rules.specs.Lent as lent;
 ghost use Rattle.card.specs.Values.{cardOf};
 ghost use Rattle.ledger.specs.Values.{ledgerOf, paceOf, effectOf, Left, deadlineBy, deadlineOf};
-ghost use Rattle.ledger.specs.Parts.{beatAs, ReachArgs, admitted, accountOf, newOf, askedOf};
+ghost use Rattle.ledger.specs.Parts.{beatAs, ReachArgs, admitted, newOf, askedOf};
 use crate::After;
 use crate::Answer;
 use crate::Effect;
@@ -38,17 +38,6 @@ fn admission(ledger: Ledger, card: Card, to: u32) -> u8
     0
 }
 
-// The account alone: an entry's own cycle, or idle time through a cycle.
-fn go_on(ledger: Ledger, beat: Beat, t: u32, entry: bool, effect: Effect) -> After
-    requires { ⌜ ReachArgs ledger (beatAs beat) t ⌝ }
-    ensures { λ r. ⌜ Left (accountOf entry (effectOf effect) (beatAs beat) (ledgerOf ledger) t) (ledgerOf ledger) (newOf entry (effectOf effect) (beatAs beat) (ledgerOf ledger) t) r ⌝ }
-{
-    if entry {
-        return entering::enter(ledger, beat, t, effect);
-    }
-    moving::reach(ledger, beat, t)
-}
-
 fn asked(ledger: Ledger, pace: Pace, card: Card, t: u32, entry: bool, effect: Effect) -> After
     ensures { λ r. ⌜ Left (askedOf entry (effectOf effect) (cardOf card) (paceOf pace) (ledgerOf ledger) t) (ledgerOf ledger) (newOf entry (effectOf effect) (beatOf (cardOf card) (paceOf pace)) (ledgerOf ledger) t) r ⌝ }
 {
@@ -59,7 +48,7 @@ fn asked(ledger: Ledger, pace: Pace, card: Card, t: u32, entry: bool, effect: Ef
     if n == 5 {
         return moving::told(ledger, Answer::Earlier);
     }
-    go_on(ledger, pacing::beat_of(pace, card), t, entry, effect)
+    entering::go_on(ledger, pacing::beat_of(pace, card), t, entry, effect)
 }
 
 // Moved on to a later cycle; the cycle it stands at changes nothing. Refused in this order: 13, 5, 11.

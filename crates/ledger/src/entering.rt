@@ -1,42 +1,17 @@
-// A ledger taken through an entry's own cycle.
+// A ledger taken through an entry's own cycle, or through idle time.
 ghost use mathlib.Core.Path.{_≡_};
 ghost use Prim.Native.Nat.{_-_};
-ghost use mathlib.Core.Bool.{true, cond, _||_};
+ghost use mathlib.Core.Bool.{cond, _||_};
 ghost use Rattle.rules.specs.Checks.{named};
-ghost use Rattle.rules.specs.Lent.{numberOf, ledgerTo, failingTo, failingOf};
+ghost use Rattle.rules.specs.Lent.{numberOf, failingOf};
 ghost use Rattle.ledger.specs.Values.{ledgerOf, effectOf, refusalOf, isNone, Left};
-ghost use Rattle.ledger.specs.Parts.{beatAs, Spaced, ReachArgs, NextArgs, dueNext, changedBy, accountOf, newOf};
+ghost use Rattle.ledger.specs.Parts.{beatAs, Spaced, ReachArgs, changedBy, accountOf, newOf};
 use crate::After;
 use crate::Answer;
 use crate::Effect;
 use crate::Ledger;
-use crate::account;
 use crate::account::Beat;
 use crate::moving;
-
-// What falls due at the next cycle, where it counts.
-fn due_next(ledger: Ledger, beat: Beat, t: u32) -> bool
-    requires { ⌜ NextArgs ledger (beatAs beat) t ⌝ }
-    ensures { λ r. ⌜ r ≡ dueNext (beatAs beat) (ledgerOf ledger) ⌝ }
-{
-    let level = ledger.level;
-    if moving::stopped(level) {
-        return false;
-    }
-    account::on_beat(beat, moving::number_of(ledger) + 1)
-}
-
-// The next cycle, with what falls due there.
-fn next(ledger: Ledger, beat: Beat, t: u32) -> Ledger
-    requires { ⌜ NextArgs ledger (beatAs beat) t ⌝ }
-    ensures { λ r. ⌜ ledgerOf r ≡ ledgerTo (beatAs beat) (ledgerOf ledger) t ⌝ }
-{
-    let owed = ledger.owed;
-    if due_next(ledger, beat, t) {
-        return moving::shift(ledger, t, owed + 1);
-    }
-    moving::shift(ledger, t, owed)
-}
 
 fn done(answer: Answer) -> bool
     ensures { λ r. ⌜ r ≡ isNone (refusalOf answer) ⌝ }
@@ -46,25 +21,6 @@ fn done(answer: Answer) -> bool
         Answer::BadRecord => false,
         Answer::Earlier => false,
         Answer::Overdue { .. } => false,
-    }
-}
-
-// Moved on to a stamp, where 19 and 20 are not asked yet. What fell due where the ledger stands is not added again.
-fn at_stamp(ledger: Ledger, beat: Beat, stamp: u32) -> After
-    requires { ⌜ ReachArgs ledger (beatAs beat) stamp ⌝ }
-    ensures { λ r. ⌜ Left (named 11 (failingTo (beatAs beat) (ledgerOf ledger) stamp)) (ledgerOf ledger) (ledgerTo (beatAs beat) (ledgerOf ledger) stamp) r ⌝ }
-{
-    if ledger.at == stamp {
-        return moving::reach(ledger, beat, stamp);
-    }
-    let before = moving::reach(ledger, beat, stamp - 1);
-    let answer = before.answer;
-    if !done(answer) {
-        return before;
-    }
-    After {
-        ledger: next(before.ledger, beat, stamp),
-        answer: Answer::Done,
     }
 }
 
@@ -130,13 +86,14 @@ fn kept(ledger: Ledger, here: Ledger, beat: Beat) -> After
     moving::told(here, Answer::Done)
 }
 
-pub fn enter(ledger: Ledger, beat: Beat, stamp: u32, effect: Effect) -> After
-    requires { ⌜ ReachArgs ledger (beatAs beat) stamp ⌝ }
-    ensures { λ r. ⌜ Left (accountOf true (effectOf effect) (beatAs beat) (ledgerOf ledger) stamp) (ledgerOf ledger) (newOf true (effectOf effect) (beatAs beat) (ledgerOf ledger) stamp) r ⌝ }
+// The account alone: an entry's own cycle, where 19 and 20 are asked behind what it does, or idle time through a cycle.
+pub fn go_on(ledger: Ledger, beat: Beat, t: u32, entry: bool, effect: Effect) -> After
+    requires { ⌜ ReachArgs ledger (beatAs beat) t ⌝ }
+    ensures { λ r. ⌜ Left (accountOf entry (effectOf effect) (beatAs beat) (ledgerOf ledger) t) (ledgerOf ledger) (newOf entry (effectOf effect) (beatAs beat) (ledgerOf ledger) t) r ⌝ }
 {
-    let there = at_stamp(ledger, beat, stamp);
+    let there = moving::reach(ledger, beat, t, !entry);
     let answer = there.answer;
-    if !done(answer) {
+    if !entry | !done(answer) {
         return there;
     }
     kept(ledger, changed(there.ledger, effect), beat)

@@ -1,10 +1,11 @@
 // A ledger moved on through idle time.
 ghost use mathlib.Core.Path.{_≡_};
 ghost use Rattle.rules.specs.Levels as levels;
-ghost use Rattle.rules.specs.Lent.{numberOf, countedTo};
+ghost use Rattle.rules.specs.Checks.{named};
+ghost use Rattle.rules.specs.Lent.{numberOf, countedTo, ledgerTo, failingTo};
 ghost use Rattle.pins.specs.Values.{levelOf};
-ghost use Rattle.ledger.specs.Values.{ledgerOf, afterAs};
-ghost use Rattle.ledger.specs.Parts.{beatAs, Later, ReachArgs, Reached, shifted};
+ghost use Rattle.ledger.specs.Values.{ledgerOf, afterAs, Left};
+ghost use Rattle.ledger.specs.Parts.{beatAs, Later, ReachArgs, below, shifted};
 use crate::After;
 use crate::Answer;
 use crate::Ledger;
@@ -71,14 +72,14 @@ pub fn shift(ledger: Ledger, to: u32, owed: u8) -> Ledger
     }
 }
 
-// A sound ledger moved on to a later cycle.
-pub fn reach(ledger: Ledger, beat: Beat, to: u32) -> After
+// A sound ledger moved on to a later cycle, or through it: then 19 and 20 are asked there too.
+pub fn reach(ledger: Ledger, beat: Beat, to: u32, through: bool) -> After
     requires { ⌜ ReachArgs ledger (beatAs beat) to ⌝ }
-    ensures { λ r. ⌜ Reached ledger (beatAs beat) to r ⌝ }
+    ensures { λ r. ⌜ Left (named 11 (failingTo (beatAs beat) (ledgerOf ledger) (below through to))) (ledgerOf ledger) (ledgerTo (beatAs beat) (ledgerOf ledger) to) r ⌝ }
 {
     let n = number_of(ledger);
     let m = n + counted_to(ledger, to);
-    match account::idle_to(beat, n, ledger.owed, ledger.since, m) {
+    match account::idle_to(beat, n, ledger.owed, ledger.since, m, through) {
         Idle::Stands(x) => told(shift(ledger, to, x), Answer::Done),
         Idle::Breaks { rule, number } => told(
             ledger,

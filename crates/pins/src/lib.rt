@@ -77,14 +77,14 @@ pub enum Read {
     Sensed(u8),
 }
 
-// Whose an entry is: of the one part of a trace without tag 25; of part 0; of part 1; with both CS_n high, NOP for both and of neither; or, as a temperature
-// is, of both.
+// Whose an entry is: of the one part of a trace without tag 25; of part 0; of both, as a temperature is; of part 1; or, with both CS_n high, NOP for both and
+// of neither.
 pub enum Whose {
     Sole,
     First,
+    Both,
     Second,
     Neither,
-    Both,
 }
 
 // The part that the writer is told, or none.

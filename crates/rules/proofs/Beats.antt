@@ -11,7 +11,7 @@ use lib.Dec.{leb, ltb}
 use borrow.Author.Tests.{lt-ltb, le-ltb, le-leb, lt-leb}
 use Rattle.rules.specs.Card.{Card}
 use Rattle.rules.specs.Heat.{startMR4, intervalAt}
-use Rattle.rules.specs.Past.{Taken, Past, lastCycle, mr4After, mr4At, sensedWith, sensedStamps}
+use Rattle.rules.specs.Past.{Taken, Past, lastCycle, mr4At, sensedWith, sensedStamps}
 use Rattle.rules.specs.Account.{every, onBeat, respaced, replaced}
 use Rattle.rules.specs.Clock.{clock, beatBy, beatAt, scheduleBy, scheduleOf, pastBelow, intervalBelow}
 use Rattle.rules.specs.Stretch.{countIn, Free}
@@ -39,7 +39,7 @@ module _ (card : Card) (e : Taken) (p : Past) where
   plain-schedule h = rw h
 
   pub plain-mr4 : e .mr4 ≡ none → mr4At (e ∷ p) ≡ mr4At p
-  unfolding mr4At mr4After
+  unfolding mr4At
   plain-mr4 h = rw h
 
   module _ (v : ℕ) (h : e .mr4 ≡ some v) where
@@ -52,7 +52,7 @@ module _ (card : Card) (e : Taken) (p : Past) where
     sensed-schedule = rw h
 
     pub sensed-mr4 : mr4At (e ∷ p) ≡ v
-    unfolding mr4At mr4After
+    unfolding mr4At
     sensed-mr4 = rw h
 
   -- no due up to its own number, and nothing below it

@@ -14,7 +14,7 @@ use Rattle.rules.specs.Levels.{stopped}
 use Rattle.rules.specs.Past.{Taken, Past, lastCycle, levelAt}
 use Rattle.rules.specs.Folds.{orElse}
 use Rattle.rules.specs.Account.{Terms, Schedule, failing, idle, firstIdle}
-use Rattle.rules.specs.Clock.{levelBelow, counts, countedFrom, clock}
+use Rattle.rules.specs.Clock.{pastBelow, counts, countedFrom, clock}
 use Rattle.rules.proofs.Tests.{bit-le}
 use Rattle.rules.proofs.Rounds.{Less}
 use Rattle.rules.proofs.Clocks.{clock-other, N-suc, N-clock, N-up}
@@ -25,7 +25,7 @@ clock-suc : (past : Past) (t : ℕ) → clock past (suc t) ≡ clock past t + co
 clock-suc past t = let z = N-suc past (suc t) in omega (arith, z, N-clock past (suc t), N-clock past t)
 
 after-last : (e : Taken) (p : Past) (t : ℕ) → e .stamp < t → counts (e ∷ p) t ≡ not (stopped (levelAt (e ∷ p)))
-unfolding counts levelBelow
+unfolding counts pastBelow
 after-last e p t h = rw (lt-ltb (e .stamp) t h)
 
 clock-on : (e : Taken) (p : Past) (j : ℕ) → clock (e ∷ p) (e .stamp + j) ≡ clock p (e .stamp) + cond (stopped (levelAt (e ∷ p))) 0 j
@@ -43,7 +43,7 @@ clock-on e p (suc j) =
 
 clock-start : (t : ℕ) → clock [] t ≡ t
 clock-start zero = unfold clock countedFrom in refl
-clock-start (suc t) = clock-suc [] t ∙ rw (clock-start t) (unfold counts levelBelow stopped in omega arith)
+clock-start (suc t) = clock-suc [] t ∙ rw (clock-start t) (unfold counts pastBelow levelAt stopped in omega arith)
 
 -- ---- from a cycle that no entry comes after
 pub clock-up : (past : Past) (t u : ℕ) → t ≤ u → clock past t ≤ clock past u

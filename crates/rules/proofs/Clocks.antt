@@ -19,7 +19,7 @@ use Rattle.rules.specs.Levels.{Level, awake, powerDown, selfRefresh, dee
 use Rattle.rules.specs.Past.{Taken, Past, ofPart, levelAt, counterAt, isCounted, stampsWhere, countedStamps}
 use Rattle.rules.specs.Entries.{Body, pins, mr4, Entry, readBody, read, readAfter, commandOf, recordedAs, moveOf, mr4Of, taken, pastOver}
 use Rattle.rules.specs.Stretch.{countIn}
-use Rattle.rules.specs.Clock.{levelBelow, counts, countedFrom, clock}
+use Rattle.rules.specs.Clock.{pastBelow, counts, countedFrom, clock}
 use Rattle.rules.proofs.Tests.{lt-cases, le-cases, bit-le, some-none}
 use Rattle.rules.proofs.PinReads.{pair-is}
 use Rattle.rules.proofs.Filtered.{mr4-nop, kept-over}
@@ -28,7 +28,7 @@ use Rattle.rules.proofs.Rounds.{AllBelow, Rising, Less, less-where, bel
 -- ---- a later entry
 module _ (e : Taken) (p : Past) where
   counts-other : (t : ℕ) → t ≤ e .stamp → counts (e ∷ p) t ≡ counts p t
-  unfolding counts levelBelow
+  unfolding counts pastBelow
   counts-other t h = rw (le-ltb (e .stamp) t h)
 
   counted-other : (a n : ℕ) → a + n ≤ suc (e .stamp) → countedFrom (e ∷ p) a n ≡ countedFrom p a n
@@ -54,7 +54,7 @@ module _ (past : Past) where
   N t = countedFrom past 0 t
 
   start-counts : (p : Past) → counts p 0 ≡ true
-  unfolding counts levelBelow stopped
+  unfolding counts pastBelow stopped levelAt
   start-counts [] = refl
   start-counts (e ∷ t) = rw (le-ltb (e .stamp) 0 (omega arith)) (start-counts t)
 
@@ -221,11 +221,11 @@ module _ (card : Card) where
   pub orderly-over : (p : ℕ) (past : Past) (es : List Entry) → Orderly card (ofPart p past) → Orderly card (ofPart p (pastOver card past es))
   orderly-over p = kept-over card p (Orderly card) taken-orderly
 
--- the level before a cycle after all entries
-pub level-after : (past : Past) (t : ℕ) → AllBelow t past → levelBelow t past ≡ levelAt past
-unfolding levelBelow AllBelow
-level-after [] t b = unfold levelAt in refl
-level-after (e ∷ p) t b = rw (lt-ltb (e .stamp) t (b .0))
+-- before a cycle after all entries
+pub all-below : (past : Past) (t : ℕ) → AllBelow t past → pastBelow t past ≡ past
+unfolding pastBelow AllBelow
+all-below [] t b = refl
+all-below (e ∷ p) t b = rw (lt-ltb (e .stamp) t (b .0))
 
 counted-more : (e : Taken) (p : Past) (ss : List ℕ) → Less (suc (e .stamp)) ss → Counted p ss → Counted (e ∷ p) ss
 unfolding Every Less
@@ -246,7 +246,7 @@ refreshes-counted (e ∷ t) r a = go (isCounted (e .cmd) (counterAt t)) (a .0) (
     go true w c = (counts-other e t (e .stamp) (omega arith) ∙ here, older c)
       where
         here : counts t (e .stamp) ≡ true
-        here = unfold counts stopped in rw (level-after t (e .stamp) (r .0), w refl)
+        here = unfold counts stopped in rw (all-below t (e .stamp) (r .0), w refl)
     go false w c = older c
 
 -- ---- a past in which every cycle counts: no entry of it leaves the part in self-refresh or in deep power-down
@@ -255,11 +255,11 @@ Counting [] = Unit {0}
 Counting (e ∷ p) = (stopped (levelAt (e ∷ p)) ≡ false) × Counting p
 
 all-count : (past : Past) → Counting past → (t : ℕ) → counts past t ≡ true
-unfolding Counting counts levelBelow
-all-count [] c t = unfold stopped in refl
+unfolding Counting counts pastBelow
+all-count [] c t = unfold stopped levelAt in refl
 all-count (e ∷ p) c t = go (ltb (e .stamp) t) (all-count p (c .1) t)
   where
-    go : (x : Bool) → not (stopped (levelBelow t p)) ≡ true → not (stopped (cond x (levelAt (e ∷ p)) (levelBelow t p))) ≡ true
+    go : (x : Bool) → not (stopped (levelAt (pastBelow t p))) ≡ true → not (stopped (levelAt (cond x (e ∷ p) (pastBelow t p)))) ≡ true
     go true h = rw (c .0)
     go false h = h
 

@@ -30,16 +30,29 @@ owing-none k d o last n t e = ⊎-elim
     let z : Path (Option (ℕ × ℕ)) (some (k .limitRule, t)) none = rw (p .1) at e in absurd (some-none (sym z)))
     (le-cases o (k .credit + k .limit))
 
--- what fails of a lent ledger in idle time through cycle t: the first number that does, as a cycle of the trace
-pub failing-through : (b : Beat) (g : Ledger) (t : ℕ) →
-    failingTo b g (suc t) ≡ relabel (λ m. g .at + (m - numberOf g)) (firstIdle lpddr3 (steady b) (g .owing) (g .since) (numberOf g) (numberOf g) (countedTo g t))
-unfolding failingTo countedTo
-failing-through b g t = let z : suc t - suc (g .at) ≡ t - g .at = omega arith in rw z (go (stopped (g .level)))
-  where
-    go : (x : Bool) → cond x none (firstIdle lpddr3 (steady b) (g .owing) (g .since) (numberOf g) (g .at) (t - g .at))
-        ≡ relabel (λ m. g .at + (m - numberOf g)) (firstIdle lpddr3 (steady b) (g .owing) (g .since) (numberOf g) (numberOf g) (cond x 0 (t - g .at)))
-    go true = unfold relabel firstIdle in refl
-    go false = idle-labelled lpddr3 (steady b) (g .owing) (g .since) (numberOf g) (g .at) (t - g .at)
+-- what fails of a lent ledger in idle time: the first number that does, as a cycle of the trace
+module _ (b : Beat) (g : Ledger) where
+  -- among so many counted cycles
+  abbrev pub firstAmong : ℕ → Option (ℕ × ℕ)
+  firstAmong j = relabel (λ m. g .at + (m - numberOf g)) (firstIdle lpddr3 (steady b) (g .owing) (g .since) (numberOf g) (numberOf g) j)
+
+  labelled : (j : ℕ) (x : Bool) → cond x none (firstIdle lpddr3 (steady b) (g .owing) (g .since) (numberOf g) (g .at) j) ≡ firstAmong (cond x 0 j)
+  labelled j true = unfold relabel firstIdle in refl
+  labelled j false = idle-labelled lpddr3 (steady b) (g .owing) (g .since) (numberOf g) (g .at) j
+
+  pub failing-through : (t : ℕ) → failingTo b g (suc t) ≡ firstAmong (countedTo g t)
+  unfolding failingTo countedTo
+  failing-through t = let z : suc t - suc (g .at) ≡ t - g .at = omega arith in rw z (labelled (t - g .at) (stopped (g .level)))
+
+  pub failing-below : (t : ℕ) → failingTo b g t ≡ firstAmong (countedTo g t - 1)
+  unfolding failingTo countedTo
+  failing-below t =
+      let z : t - suc (g .at) ≡ t - g .at - 1 = omega arith in
+      rw z (labelled (t - g .at - 1) (stopped (g .level)) ∙ ap firstAmong (one-less (stopped (g .level))))
+    where
+      one-less : (x : Bool) → cond x 0 (t - g .at - 1) ≡ cond x 0 (t - g .at) - 1
+      one-less true = refl
+      one-less false = refl
 
 -- the ledger with the credit added
 unfoldable pub biased : ℤ → ℕ

@@ -25,7 +25,7 @@ use Rattle.rules.specs.Lent.{Ledger, numberOf, isThere, countedTo, ledge
 use Rattle.rules.proofs.Tests.{lt-cases}
 use Rattle.rules.proofs.Biased.{ledger-biased}
 use Rattle.rules.proofs.Rounds.{AllBelow, Rising, Less, less-where, below-more}
-use Rattle.rules.proofs.Clocks.{sensed-uncounted, clock-other, clocks-other, N-up, counted-number, N-clock, less-numbers, Awake, Orderly, taken-orderly, level-after, refreshes-counted}
+use Rattle.rules.proofs.Clocks.{sensed-uncounted, clock-other, clocks-other, N-up, counted-number, N-clock, less-numbers, Awake, Orderly, taken-orderly, all-below, refreshes-counted}
 use Rattle.rules.proofs.Decided.{orElse-none, none-orElse}
 use Rattle.rules.proofs.Refreshed.{above-all}
 use Rattle.rules.proofs.Idle.{same-idle, same-first, owed-ahead, last-ahead, not-yet, last-by, same-ledger, ledger-idle, last-idle, first-idle}
@@ -245,7 +245,7 @@ module _ (card : Card) (past : Past) (e : Entry) (up : Rising past) (o : Orderly
 
   counts-here : is-counted ≡ true → counts past (e .stamp) ≡ true
   unfolding counts stopped Awake taken
-  counts-here h = rw (level-after past (e .stamp) below, taken-orderly card past e o .awakes .0 h)
+  counts-here h = rw (all-below past (e .stamp) below, taken-orderly card past e o .awakes .0 h)
 
   less-here : is-counted ≡ true → Less own nums
   less-here h = less-numbers past (e .stamp) (countedStamps past) (counts-here h) (refreshes-counted past up (o .awakes)) stamps-less

@@ -16,7 +16,7 @@ use Rattle.rules.specs.Units.{delaysOf}
 use Rattle.rules.specs.Heat.{heat, startMR4, intervalAt, isHot, delaysAt}
 use Rattle.rules.specs.Ranges.{cardGood}
 use Rattle.rules.specs.Whose.{isOf, parts}
-use Rattle.rules.specs.Past.{Past, ofPart, mr4After, mr4At, commandCount}
+use Rattle.rules.specs.Past.{Past, ofPart, mr4At, commandCount}
 use Rattle.rules.specs.Folds.{orElse, firstOf}
 use Rattle.rules.specs.Account.{every, steady}
 use Rattle.rules.specs.Clock.{beatAt, scheduleBy, scheduleOf, bookOf, booksOf}
@@ -59,7 +59,7 @@ cool-part p (e ∷ t) c = go (isOf p (e .whose)) (cool-part p t (c .1))
     go false h = h
 
 cool-mr4 : (past : Past) → Cool past → mr4At past ≡ startMR4
-unfolding Cool mr4At mr4After
+unfolding Cool mr4At
 cool-mr4 [] c = refl
 cool-mr4 (e ∷ t) c = rw (c .0) (cool-mr4 t (c .1))
 

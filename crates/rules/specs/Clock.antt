@@ -7,19 +7,19 @@ use mathlib.Core.Option.{Option, none, some}
 use lib.Dec.{ltb}
 use Rattle.rules.specs.Card.{Card}
 use Rattle.rules.specs.Heat.{startMR4, intervalAt}
-use Rattle.rules.specs.Levels.{Level, awake, stopped}
+use Rattle.rules.specs.Levels.{stopped}
 use Rattle.rules.specs.Whose.{parts}
 use Rattle.rules.specs.Past.{Past, ofPart, mr4At, levelAt, countedStamps}
 use Rattle.rules.specs.Account.{Schedule, Beat, every, steady, respaced, replaced, Book}
 
--- the level before cycle t: after the entries below it
-unfoldable pub levelBelow : ℕ → Past → Level
-levelBelow t [] = awake
-levelBelow t (e ∷ p) = cond (ltb (e .stamp) t) (levelAt (e ∷ p)) (levelBelow t p)
+-- the entries below cycle t
+unfoldable pub pastBelow : ℕ → Past → Past
+pastBelow t [] = []
+pastBelow t (e ∷ p) = cond (ltb (e .stamp) t) (e ∷ p) (pastBelow t p)
 
 -- not counted are the cycles after a self-refresh entry up to and including its exit, and all after a deep power-down entry
 unfoldable pub counts : Past → ℕ → Bool
-counts past t = not (stopped (levelBelow t past))
+counts past t = not (stopped (levelAt (pastBelow t past)))
 
 -- how many of the n cycles from cycle a on are counted
 unfoldable pub countedFrom : Past → (a n : ℕ) → ℕ
@@ -48,11 +48,7 @@ unfoldable pub scheduleOf : Card → Past → Schedule
 scheduleOf card [] = steady (beatAt card [])
 scheduleOf card (e ∷ p) = scheduleBy (clock p (e .stamp)) (e .mr4) (beatAt card (e ∷ p)) (scheduleOf card p)
 
--- the entries below cycle t, and the interval in force after them
-unfoldable pub pastBelow : ℕ → Past → Past
-pastBelow t [] = []
-pastBelow t (e ∷ p) = cond (ltb (e .stamp) t) (e ∷ p) (pastBelow t p)
-
+-- the interval in force before cycle t
 unfoldable pub intervalBelow : Card → ℕ → Past → ℕ
 intervalBelow card t past = intervalAt card (mr4At (pastBelow t past))
 

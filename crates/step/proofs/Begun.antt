@@ -1,9 +1,9 @@
 -- A quick run begins with its record, and ends with the record put together; what its loop keeps.
-use Prim.Native.Nat.{ℕ, zero, suc, _-_, _/_, _≤_}
+use Prim.Native.Nat.{ℕ, zero, suc, _-_, _*_, _/_, _≤_, min}
 use mathlib.Core.Path.{_≡_, refl, ap, sym, _∙_}
 use mathlib.Core.Bool.{Bool, true, false, not, _&&_}
 use mathlib.Core.List.{List}
-use native.Mathlib.Nat.{lt-trans}
+use native.Mathlib.Nat.{lt-trans, sub-zero}
 use native.Mathlib.Omega.{arith}
 use lib.Dec.{ltb}
 use lib.ListN.{length, drop}
@@ -26,7 +26,7 @@ use Rattle.step.specs.declared.single.Single.{Single}
 use Rattle.step.specs.Ready.{standsOf}
 use Rattle.step.specs.Single.{gone, goneBehind, duesBy}
 use Rattle.step.specs.Quick.{goesOn, quickOf, nowOf, EndArgs}
-use Rattle.step.proofs.Farther.{from-start, behind-none}
+use Rattle.step.proofs.Farther.{from-start}
 use Rattle.step.proofs.Cleared.{ready-parts}
 use Rattle.step.proofs.Standing.{not-so, stands-so, unrefused}
 
@@ -41,12 +41,13 @@ end-ledger rec t a r l = sym (code-is (r .ledger)) ∙ ap codeOf (l .ledger ∙ 
     moves = rw (unrefused rec t a) (unfold unlessRefused movedOn in refl)
 
 -- what a loop keeps: the run from the start is the run from here
-pub record Going (d : Delays) (rec : Single) (v : List ℕ) (most : ℕ) (banks : Banks) (bus : Bus) (four : Four) (u used nops left : ℕ) : Type 0 where
-  pub same : quickOf most d rec v ≡ goneBehind used (used / 10 - nops) 0 (quickOf left d (nowOf rec banks bus four u) (drop used v))
+pub record Going (d : Delays) (rec : Single) (v : List ℕ) (most : ℕ) (banks : Banks) (bus : Bus) (four : Four) (u used nops : ℕ) : Type 0 where
+  pub same : quickOf most d rec v ≡ goneBehind used (used / 10 - nops) 0 (quickOf (most - used / 10) d (nowOf rec banks bus four u) (drop used v))
   pub kept : banks .refpb ≡ rec .share .banks .refpb
   pub stood : standsOf rec ≡ true
   pub ends : EndArgs rec u
-  pub within : used ≤ length v
+  pub whole : used ≡ 10 * (used / 10)
+  pub within : used ≤ min (10 * most) (length v)
   pub few : nops ≤ used / 10
 
 -- ---- its beginning
@@ -100,23 +101,15 @@ module _ (d : Delays) (rec : Single) (bs : List ℕ) where
     pub unbegun : not ok ≡ true → gone rec 0 0 0 ≡ quickOf most d rec bs
     unbegun n = not-begun (sym (rw es at os) ∙ not-true ok n) most
 
-    pub begun : not ok ≡ false → Going d rec bs most (rec .share .banks) (rec .share .bus) (rec .share .four) (rec .last .at) 0 0 most
+    pub begun : not ok ≡ false → Going d rec bs most (rec .share .banks) (rec .share .bus) (rec .share .four) (rec .last .at) 0 0
     begun n =
         let p = both-true (standsOf rec) _ (sym os ∙ not-false ok n) in
         record {
-          same = begins (p .0) most;
+          same = rw (sub-zero most) (begins (p .0) most);
           kept = refl;
           stood = p .0;
           ends = record { later = omega (arith, stands-so rec (p .0) .there); early = rw (← es) (ltb-true (rec .last .at) end (p .1)) };
+          whole = refl;
           within = omega arith;
           few = omega arith;
         }
-
--- ---- as many as were asked for
-module _ {d : Delays} {rec : Single} {v : List ℕ} {most : ℕ} {banks : Banks} {bus : Bus} {four : Four} {u used nops left : ℕ}
-    (g : Going d rec v most banks bus four u used nops left) where
-  pub finished : left ≤ 0 → gone (nowOf rec banks bus four u) used (used / 10 - nops) 0 ≡ quickOf most d rec v
-  finished h =
-      let z : left ≡ 0 = omega arith in
-      let e : quickOf left d (nowOf rec banks bus four u) (drop used v) ≡ gone (nowOf rec banks bus four u) 0 0 0 = rw z (unfold quickOf in refl) in
-      sym (g .same ∙ ap (goneBehind used (used / 10 - nops) 0) e ∙ behind-none (gone (nowOf rec banks bus four u) used (used / 10 - nops) 0))

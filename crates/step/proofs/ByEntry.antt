@@ -114,27 +114,21 @@ module _ (d : Delays) (bs : List ℕ) (all : Ran) (left : ℕ) (p : Ran) (so : A
     refreshes = omega (arith, within-rest, so .within, so .refreshes, counted .refreshes, small);
   }
 
-  module _ (n : Ran) (is : n ≡ behind (p .used) (p .commands) (p .refreshes) o) where
-    on : n .used ≡ p .used + o .used
-    on = ap (λ (r : Ran). r .used) is
+  pub along-ends : o .used ≡ 0 → p ≡ all
+  along-ends e =
+      let rest = drop (p .used) bs in
+      sym (behind-none p) ∙ ap (behind (p .used) (p .commands) (p .refreshes)) (sym (run-ends (p .rec) rest (rw (← one .is) e) left)) ∙ so .same
 
-    pub along-ends : n .used ≡ p .used → n ≡ all
-    along-ends e =
-        let rest = drop (p .used) bs in
-        let u : runOf 1 (p .rec) rest .used ≡ 0 = rw (← one .is) (omega (arith, on, e)) in
-        let stops : (k : ℕ) → runOf k (p .rec) rest ≡ ran (p .rec) 0 0 0 = run-ends (p .rec) rest u in
-        is ∙ ap (behind (p .used) (p .commands) (p .refreshes)) (one .is ∙ stops 1 ∙ sym (stops left)) ∙ so .same
-
-    -- it was one entry
-    then : (n .used ≡ p .used → ⊥) → (k : ℕ) → left ≡ suc k →
-        runOf left (p .rec) (drop (p .used) bs) ≡ behind (o .used) (o .commands) (o .refreshes) (runOf k (o .rec) (drop (o .used) (drop (p .used) bs)))
-    then e k l =
+  -- it was one entry
+  module _ (e : o .used ≡ 0 → ⊥) (k : ℕ) (l : left ≡ suc k) where
+    then : runOf left (p .rec) (drop (p .used) bs) ≡ behind (o .used) (o .commands) (o .refreshes) (runOf k (o .rec) (drop (o .used) (drop (p .used) bs)))
+    then =
         let part : Part 1 (p .rec) (drop (p .used) bs) o = rw (one .is) (run-part 1 (p .rec) (drop (p .used) bs)) in
-        let ten : runOf 1 (p .rec) (drop (p .used) bs) .used ≡ 10 = rw (← one .is) (omega (arith, part .used, part .few, on, e)) in
+        let ten : runOf 1 (p .rec) (drop (p .used) bs) .used ≡ 10 = rw (← one .is) (omega (arith, part .used, part .few, e)) in
         rw (one .is) (run-then 1 (p .rec) (drop (p .used) bs) ten k left (omega arith))
 
-    pub along-next : (n .used ≡ p .used → ⊥) → (k : ℕ) → left ≡ suc k → Along d bs all k n
-    along-next e k l = rw is (record {
+    pub along-next : (n : Ran) → n ≡ behind (p .used) (p .commands) (p .refreshes) o → Along d bs all k n
+    along-next n is = rw is (record {
       sound = one .sound;
       within = omega (arith, within-rest, so .within);
       commands = omega (arith, so .commands, counted .commands);
@@ -142,6 +136,6 @@ module _ (d : Delays) (bs : List ℕ) (all : Ran) (left : ℕ) (p : Ran) (so : A
       same =
           ap (λ (x : List ℕ). behind (p .used + o .used) (p .commands + o .commands) (p .refreshes + o .refreshes) (runOf k (o .rec) x)) (sym (drop-drop (o .used) (p .used) bs))
           ∙ sym (behind-twice (p .used) (p .commands) (p .refreshes) (o .used) (o .commands) (o .refreshes) (runOf k (o .rec) (drop (o .used) (drop (p .used) bs))))
-          ∙ ap (behind (p .used) (p .commands) (p .refreshes)) (sym (then e k l))
+          ∙ ap (behind (p .used) (p .commands) (p .refreshes)) (sym then)
           ∙ so .same;
     })

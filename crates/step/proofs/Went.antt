@@ -1,26 +1,27 @@
 -- An entry of a quick run: it stops there, or goes on from the record after it.
-use Prim.Native.Nat.{ℕ, zero, suc, _+_, _-_, _/_, _≤_, _<_}
+use Prim.Native.Nat.{ℕ, zero, suc, _+_, _-_, _*_, _/_, _≤_, _<_, min}
 use mathlib.Core.Path.{_≡_, refl, ap, sym, _∙_}
 use mathlib.Core.Bool.{Bool, true, false, cond, not, _&&_}
 use mathlib.Core.List.{List}
+use mathlib.Core.Logic.{⊎-elim}
 use native.Mathlib.Nat.{le-trans, le-of-lt}
 use native.Mathlib.Omega.{arith}
 use lib.Dec.{ltb}
-use lib.ListN.{length, getD, drop, length-drop}
-use lib.Seq.{drop-drop}
+use lib.ListN.{length, getD, take, drop, length-take, length-drop, take-append-drop}
+use lib.Seq.{drop-drop, drop-append-le}
 use borrow.Author.Tests.{le-leb, ltb-true, eq-eqb, not-true, not-false}
 use Rattle.rules.specs.Commands.{NOP, is}
 use Rattle.rules.specs.Pins.{decode}
 use Rattle.rules.specs.Levels.{awake, depth, sameLevel}
 use Rattle.rules.specs.Entries.{Entry, entry, recordedAs}
 use Rattle.rules.specs.Lent.{numberOf, countedTo, ledgerTo}
-use Rattle.rules.proofs.Tests.{both-true}
+use Rattle.rules.proofs.Tests.{lt-cases, both-true}
 use Rattle.card.specs.declared.Delays.{Delays}
 use Rattle.pins.specs.Values.{levelOf}
 use Rattle.pins.specs.Places.{bankOn, apOn}
 use Rattle.pins.specs.declared.Front.{Front}
 use Rattle.pins.specs.Fronts.{frontOf}
-use Rattle.pins.proofs.Fronts.{entry-room}
+use Rattle.pins.proofs.Fronts.{no-entry, entry-room, front-append}
 use Rattle.ledger.specs.Values.{ledgerOf, levelIn, codeOf, deadlineOf}
 use Rattle.ledger.proofs.Deadlines.{same-deadline}
 use Rattle.bank.specs.declared.Banks.{Banks}
@@ -45,12 +46,21 @@ count-low Wr = omega arith
 count-low Pre = omega arith
 count-low Cold = omega arith
 
+-- what stands at a place does not hang on the bytes behind its field
+same-front : (v : List ℕ) (size at : ℕ) → (at + 10 ≤ length v → at + 10 ≤ size) → frontOf (drop at (take size v)) ≡ frontOf (drop at v)
+same-front v size at h =
+    ⊎-elim (λ (p : (length v < at + 10) × (ltb (length v) (at + 10) ≡ true)). sym (no-entry (take size v) at (rw length-take (omega arith))) ∙ no-entry v at (p .0))
+    (λ (p : (at + 10 ≤ length v) × (ltb (length v) (at + 10) ≡ false)).
+    sym (front-append (drop at (take size v)) (drop size v) (rw (length-drop, length-take) (omega (arith, h (p .0)))))
+    ∙ rw (← drop-append-le at (take size v) (drop size v) (rw length-take (omega (arith, h (p .0)))), take-append-drop size v))
+    (lt-cases (length v) (at + 10))
+
 -- what the code finds of the entry here
-pub record Saw (d : Delays) (rec : Single) (v : List ℕ) (most : ℕ) (banks : Banks) (bus : Bus) (four : Four) (u used nops left : ℕ)
+pub record Saw (d : Delays) (rec : Single) (v : List ℕ) (most : ℕ) (banks : Banks) (bus : Bus) (four : Four) (u used nops size : ℕ)
     (f : Front) (hot : Hot) (b : ℕ) (w : Waits) (end : ℕ) (clear ok : Bool) : Type 0 where
-  pub going : Going d rec v most banks bus four u used nops left
-  pub more : 0 < left
-  pub front : f ≡ frontOf (drop used v)
+  pub going : Going d rec v most banks bus four u used nops
+  pub cut : size ≡ min (10 * most) (length v)
+  pub front : f ≡ frontOf (drop used (take size v))
   pub kind : hot ≡ hotOf (decode (f .pins))
   pub bank : b ≡ bankOn (f .pins)
   pub waits : w ≡ waitsOf d rec
@@ -58,9 +68,9 @@ pub record Saw (d : Delays) (rec : Single) (v : List ℕ) (most : ℕ) (banks : 
   pub ready : clear ≡ readyBy hot (laneOf (nowOf rec banks bus four u) b) w d bus (banks .act .at) (getD (four .at) 3 0) (f .stamp)
   pub passes : ok ≡ (f .whole && ((ltb u (f .stamp) && ltb (f .stamp) end) && clear))
 
-module _ {d : Delays} {rec : Single} {v : List ℕ} {most : ℕ} {banks : Banks} {bus : Bus} {four : Four} {u used nops left : ℕ}
+module _ {d : Delays} {rec : Single} {v : List ℕ} {most : ℕ} {banks : Banks} {bus : Bus} {four : Four} {u used nops size : ℕ}
     {f : Front} {hot : Hot} {b : ℕ} {w : Waits} {end : ℕ} {clear ok : Bool}
-    (s : Saw d rec v most banks bus four u used nops left f hot b w end clear ok) where
+    (s : Saw d rec v most banks bus four u used nops size f hot b w end clear ok) where
   abbrev now : Single
   now = nowOf rec banks bus four u
 
@@ -68,7 +78,7 @@ module _ {d : Delays} {rec : Single} {v : List ℕ} {most : ℕ} {banks : Banks}
   abbrev counts : Entry → ℕ
   counts e = cond (is NOP (recordedAs (readBy now e))) 0 1
 
-  abbrev g : Going d rec v most banks bus four u used nops left
+  abbrev g : Going d rec v most banks bus four u used nops
   g = s .going
 
   stands : Stands rec
@@ -91,23 +101,24 @@ module _ {d : Delays} {rec : Single} {v : List ℕ} {most : ℕ} {banks : Banks}
       s .ready ∙ rw (s .kind, s .bank, s .waits, g .kept) in
       rw (stands-now, same-end, s .passes, s .deadline, c)
 
-  from-here : (n : ℕ) → quickOf (suc n) d now (drop used v) ≡
+  abbrev left : ℕ
+  left = most - used / 10
+
+  from-here : (n : ℕ) → left ≡ suc n → quickOf (suc n) d now (drop used v) ≡
       cond ok (goneBehind 10 (counts (entry (f .stamp) (f .pins))) 0 (quickOf n d (singleWith now (entry (f .stamp) (f .pins))) (drop 10 (drop used v)))) (gone now 0 0 0)
   unfolding quickOf
-  from-here n = rw (← s .front, goes)
+  from-here n e = rw (← same-front v size used (λ h. omega (arith, g .whole, s .cut)), ← s .front, goes)
 
   -- all of them but NOP
   abbrev commands : ℕ
   commands = used / 10 - nops
 
   pub stopped : not ok ≡ true → gone now used commands 0 ≡ quickOf most d rec v
-  stopped n = go left (g .same)
+  stopped n = sym (g .same ∙ ap (goneBehind used commands 0) (go left refl) ∙ behind-none (gone now used commands 0))
     where
-      go : (k : ℕ) → quickOf most d rec v ≡ goneBehind used commands 0 (quickOf k d now (drop used v)) → gone now used commands 0 ≡ quickOf most d rec v
-      go zero e = sym (e ∙ (unfold quickOf in behind-none (gone now used commands 0)))
-      go (suc k) e =
-          let h : quickOf (suc k) d now (drop used v) ≡ gone now 0 0 0 = from-here k ∙ rw (not-true ok n) in
-          sym (e ∙ ap (goneBehind used commands 0) h ∙ behind-none (gone now used commands 0))
+      go : (k : ℕ) → left ≡ k → quickOf k d now (drop used v) ≡ gone now 0 0 0
+      go zero e = unfold quickOf in refl
+      go (suc k) e = from-here k e ∙ rw (not-true ok n)
 
   module _ (yes : not ok ≡ false) where
     parts : (f .whole ≡ true) × (ltb u (f .stamp) ≡ true) × (ltb (f .stamp) end ≡ true) × (clear ≡ true)
@@ -117,10 +128,10 @@ module _ {d : Delays} {rec : Single} {v : List ℕ} {most : ℕ} {banks : Banks}
         let e = both-true _ _ (c .0) in
         (a .0, e .0, e .1, c .1)
 
-    pub room : used + 10 ≤ length v
+    pub room : used + 10 ≤ min (10 * most) (length v)
     room =
-        let r = entry-room (drop used v) (rw (← s .front) (parts .0)) in
-        omega (arith, rw length-drop at r)
+        let r = entry-room (drop used (take size v)) (rw (← s .front) (parts .0)) in
+        omega (arith, rw (length-drop, length-take) at r, s .cut)
 
     above : u < f .stamp
     above = ltb-true _ _ (parts .1)
@@ -136,7 +147,7 @@ module _ {d : Delays} {rec : Single} {v : List ℕ} {most : ℕ} {banks : Banks}
         → (banks′ : Banks) → banks′ ≡ banksThen h b a (f .stamp) (rec .share .mr2) banks
         → (bus′ : Bus) → bus′ ≡ busThen h (f .stamp) (rec .share .mr2) bus
         → (four′ : Four) → four′ ≡ fourThen h (f .stamp) four
-        → Going d rec v most banks′ bus′ four′ (f .stamp) (used + 10) nops′ (left - 1)
+        → Going d rec v most banks′ bus′ four′ (f .stamp) (used + 10) nops′
     went h k a l nops′ ks banks′ bs bus′ us four′ rs =
         let t = f .stamp in
         let e = entry t (f .pins) in
@@ -144,15 +155,16 @@ module _ {d : Delays} {rec : Single} {v : List ℕ} {most : ℕ} {banks : Banks}
         let r : nowOf rec banks′ bus′ four′ t ≡ singleWith now e = rw (bs, us, rs, ← k, ← l, s .kind, s .bank) (sym (taken .0)) in
         let c : hotCount h ≡ counts e = rw (← k, s .kind) (sym (taken .1)) in
         let more-commands : used / 10 - nops + hotCount h ≡ (used + 10) / 10 - nops′ = omega (arith, g .few, ks, count-low h) in
-        let n : left ≡ suc (left - 1) = omega (arith, s .more) in
-        let x = quickOf (left - 1) d (nowOf rec banks′ bus′ four′ t) (drop (used + 10) v) in
+        let n : left ≡ suc (most - (used + 10) / 10) = omega (arith, g .whole, room) in
+        let x = quickOf (most - (used + 10) / 10) d (nowOf rec banks′ bus′ four′ t) (drop (used + 10) v) in
         let y : quickOf left d now (drop used v) ≡ goneBehind 10 (hotCount h) 0 x =
-        ap (λ (k : ℕ). quickOf k d now (drop used v)) n ∙ from-here (left - 1) ∙ rw (not-false ok yes, ← r, ← c, drop-drop 10 used v) in
+        ap (λ (k : ℕ). quickOf k d now (drop used v)) n ∙ from-here _ n ∙ rw (not-false ok yes, ← r, ← c, drop-drop 10 used v) in
         record {
           same = g .same ∙ ap (goneBehind used commands 0) y ∙ behind-twice used commands 0 10 (hotCount h) 0 x ∙ ap (λ (m : ℕ). goneBehind (used + 10) m 0 x) more-commands;
           kept = ap (λ (y : Banks). y .refpb) bs ∙ refpb-kept h b a t (rec .share .mr2) banks ∙ g .kept;
           stood = g .stood;
           ends = ends-there;
+          whole = omega (arith, g .whole);
           within = room;
           few = omega (arith, g .few, ks);
         }

@@ -79,11 +79,11 @@ pub fn pair_run(rec: Record, delays: Delays, bytes: &[u8], most: usize) -> Ran
     let mut left = most;
     while 0 < left {
         let at = part.used;
-        let next = joined(part, one_entry(part.rec, delays, bytes, at));
-        if next.used == at {
-            return next;
+        let one = one_entry(part.rec, delays, bytes, at);
+        if one.used == 0 {
+            return part;
         }
-        part = next;
+        part = joined(part, one);
         left -= 1;
     }
     part

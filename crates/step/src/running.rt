@@ -1,7 +1,7 @@
 // The quick run: entries over one record, whose parts are changed in place.
 ghost use mathlib.Core.Path.{_≡_};
 ghost use mathlib.Core.Bool.{_&&_};
-ghost use Prim.Native.Nat.{_-_, _/_, _≤_};
+ghost use Prim.Native.Nat.{_-_, _*_, _/_, _≤_, min};
 ghost use lib.Dec.{ltb};
 ghost use Rattle.step.specs.Ready.{standsOf};
 ghost use Rattle.step.specs.Single.{gone};
@@ -88,6 +88,13 @@ fn ended(
     }
 }
 
+// As many bytes as so many entries have, or all.
+fn most_bytes(most: usize, size: usize) -> usize
+    ensures { λ r. ⌜ r ≡ min (10 * most) size ⌝ }
+{
+    if most <= size / 10 { most * 10 } else { size }
+}
+
 // At most so many entries, up to the first that the quick test does not clear. The loop changes each part where it lies: a function for a part would copy it.
 pub fn quick_run(rec: Single, delays: Delays, bytes: &[u8], most: usize) -> Gone
     ensures { λ r. ⌜ r ≡ quickOf most delays rec (now (bytes .entry)) ⌝ }
@@ -117,10 +124,10 @@ pub fn quick_run(rec: Single, delays: Delays, bytes: &[u8], most: usize) -> Gone
     let mut last = rec.last.at;
     let mut used: usize = 0;
     let mut nops: usize = 0;
-    let mut left = most;
-    while 0 < left {
+    let within = &bytes[..most_bytes(most, bytes.len())];
+    loop {
         // At place 0, which costs no test of the place.
-        let front = pins::entry_at(&bytes[used..], 0);
+        let front = pins::entry_at(&within[used..], 0);
         let t = front.stamp;
         let p = front.pins;
         let kind = kind_on(p);
@@ -155,7 +162,6 @@ pub fn quick_run(rec: Single, delays: Delays, bytes: &[u8], most: usize) -> Gone
         }
         last = t;
         used += 10;
-        left -= 1;
         match kind {
             0 => {
                 nops += 1;
@@ -208,15 +214,4 @@ pub fn quick_run(rec: Single, delays: Delays, bytes: &[u8], most: usize) -> Gone
             _ => {}
         }
     }
-    let all = Banks {
-        opened: opened,
-        refpb: refpb,
-        pre: pre,
-        act: act,
-        rd: rd,
-        rda: rda,
-        wr: wr,
-        wra: wra,
-    };
-    ended(rec, all, bus, four, last, used, nops)
 }

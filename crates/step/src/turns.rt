@@ -103,11 +103,11 @@ fn single_run(rec: Single, delays: Delays, bytes: &[u8], most: usize) -> Gone
 {
     let mut part = no_way(rec);
     loop {
-        let next = turn(part, delays, bytes, most);
-        if next.used == part.used {
-            return next;
+        let at = part.used;
+        part = turn(part, delays, bytes, most);
+        if part.used == at {
+            return part;
         }
-        part = next;
     }
 }
 

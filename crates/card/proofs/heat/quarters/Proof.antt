@@ -7,31 +7,32 @@ use Rattle.card.proofs.heat.quarters.Tie as tie
 
 returns : tie.Need-returns
 unfolding quarters
-returns c = (rw (← c .before .heat .ensures, c .if1 .taken), omega arith)
+returns c = (rw (← c .before .heat .ensures, c .match .keys1), omega arith)
 
 returns-2 : tie.Need-returns-2
 unfolding quarters
-returns-2 c = (rw (← c .before .before .heat .ensures, c .if2 .taken), omega arith)
+returns-2 c = (rw (← c .before .heat .ensures, c .match .keys2), omega arith)
 
 returns-3 : tie.Need-returns-3
 unfolding quarters
-returns-3 c = (rw (← c .before .before .before .heat .ensures, c .if3 .taken), omega arith)
+returns-3 c = (rw (← c .before .heat .ensures, c .match .keys3), omega arith)
 
 returns-4 : tie.Need-returns-4
 unfolding quarters
-returns-4 c =
-    let s = c .before .before .before in (
-      rw (← s .before .heat .ensures, ne-eqb _ _ (s .if1 .left), ne-eqb _ _ (c .before .before .if2 .left), ne-eqb _ _ (c .before .if3 .left), c .if4 .taken),
-      omega arith,
-    )
+returns-4 c = (rw (← c .before .heat .ensures, c .match .keys4), omega arith)
 
 returns-5 : tie.Need-returns-5
 unfolding quarters
-returns-5 c =
-    let s = c .before .before .before in (
-      rw (← s .before .heat .ensures, ne-eqb _ _ (s .if1 .left), ne-eqb _ _ (c .before .before .if2 .left), ne-eqb _ _ (c .before .if3 .left), c .if4 .left),
+returns-5 c = (rw (← c .before .heat .ensures, c .match .keys5), omega arith)
+
+returns-6 : tie.Need-returns-6
+unfolding quarters
+returns-6 c =
+    let r = c .match .rest in (
+      rw (← c .before .heat .ensures, ne-eqb _ _ (r .0 .0 .0 .0 .1), ne-eqb _ _ (r .0 .0 .0 .1), ne-eqb _ _ (r .0 .0 .1), ne-eqb _ _ (r .0 .1), ne-eqb _ _ (r .1)),
       omega arith,
     )
 
 pub quarters-spec : {M : Type 1} → statement M
-quarters-spec = tie.close (tie.spec (λ c κs. search needs) returns returns-2 returns-3 returns-4 returns-5)
+quarters-spec =
+    tie.close (tie.spec (λ c κs. search needs) returns returns-2 returns-3 returns-4 returns-5 returns-6)

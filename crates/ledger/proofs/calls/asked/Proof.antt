@@ -10,29 +10,17 @@ use Rattle.ledger.proofs.Admission.{refused-13, refused-5, not-refused,
 use Rattle.ledger.proofs.calls.asked.Statement.{statement}
 use Rattle.ledger.proofs.calls.asked.Tie as tie
 
-admission-requires : tie.Need-admission-requires
-admission-requires c κs = search needs
-
-told-requires : tie.Need-told-requires
-told-requires c κs = search needs
-
 returns : tie.Need-returns
 unfolding askedOf refusalOf
 returns c =
     rw (c .told .ensures)
     (refused-as _ _ (refused-13 _ _ _ (sym (c .before .before .admission .ensures) ∙ c .before .if1 .taken) _) _ _ refl _)
 
-told-requires-2 : tie.Need-told-requires-2
-told-requires-2 c κs = search needs
-
 returns-2 : tie.Need-returns-2
 unfolding askedOf refusalOf
 returns-2 c =
     rw (c .told2 .ensures)
     (refused-as _ _ (refused-5 _ _ _ (sym (c .before .before .before .admission .ensures) ∙ c .before .if2 .taken) _) _ _ refl _)
-
-beat-of-requires : tie.Need-beat-of-requires
-beat-of-requires c κs = search needs
 
 go-on-requires : tie.Need-go-on-requires
 unfolding ledgerOf
@@ -53,11 +41,11 @@ pub asked-spec : {M : Type 1} → statement M
 asked-spec =
     tie.close
     (tie.spec
-    admission-requires
-    told-requires
+    (λ c κs. search needs)
+    (λ c κs. search needs)
     returns
-    told-requires-2
+    (λ c κs. search needs)
     returns-2
-    beat-of-requires
+    (λ c κs. search needs)
     go-on-requires
     returns-3)

@@ -1,7 +1,6 @@
 -- A ledger moved on, by the account's closed form over its numbers.
 use native.Mathlib.Omega.{arith}
 use borrow.Author.Needs.{needs}
-use Rattle.ledger.specs.Parts.{shifted}
 use Rattle.ledger.proofs.Moves.{numbers-by, stands-moved, breaks-told}
 use Rattle.ledger.proofs.moving.reach.Statement.{statement}
 use Rattle.ledger.proofs.moving.reach.Tie as tie
@@ -9,31 +8,23 @@ use Rattle.ledger.proofs.moving.reach.Tie as tie
 add-m : tie.Need-add-m
 add-m c = let s = c .before .before in omega (arith, numbers-by (s .args .ledger) (s .args .to) (s .pre .later))
 
-sub-t16 : tie.Need-sub-t16
-sub-t16 c = omega (arith, c .before .before .before .before .idle-to .ensures .passed _ _ (c .before .before .rule .given .1) .0)
+sub-t17 : tie.Need-sub-t17
+sub-t17 c = omega (arith, c .before .before .before .before .idle-to .ensures .passed _ _ (c .before .before .rule .given .1) .0)
 
-add-t17 : tie.Need-add-t17
-add-t17 c = omega (arith, c .before .before .before .before .idle-to .ensures .passed _ _ (c .before .before .rule .given .1) .1)
+add-t18 : tie.Need-add-t18
+add-t18 c = omega (arith, c .before .before .before .before .idle-to .ensures .passed _ _ (c .before .before .rule .given .1) .1)
 
 returns : tie.Need-returns
 returns c =
     let i = c .before .before .before .before .before in
-    let e = c .before .before .before .x .given .1 in
     rw (c .told .ensures, c .before .shift .ensures)
-    (record {
-      left = stands-moved _ _ _ _ _ (i .before .before .number-of .ensures) (i .before .counted-to .ensures) _ (i .idle-to .ensures .is) _ e;
-      low = unfold shifted in i .idle-to .ensures .low _ e;
-    })
+    (stands-moved _ _ _ _ _ _ (i .before .before .number-of .ensures) (i .before .counted-to .ensures) _ (i .idle-to .ensures .is) _ (c .before .before .before .x .given .1))
 
 returns-2 : tie.Need-returns-2
 returns-2 c =
     let i = c .before .before .before .before .before in
-    let e = c .before .before .before .rule .given .1 in
     rw (c .told2 .ensures)
-    (record {
-      left = breaks-told _ _ _ _ _ (i .before .before .number-of .ensures) (i .before .counted-to .ensures) _ (i .idle-to .ensures .is) _ _ e;
-      low = i .before .before .before .pre .low;
-    })
+    (breaks-told _ _ _ _ _ _ (i .before .before .number-of .ensures) (i .before .counted-to .ensures) _ (i .idle-to .ensures .is) _ _ (c .before .before .before .rule .given .1))
 
 pub reach-spec : {M : Type 1} → statement M
 reach-spec =
@@ -49,8 +40,8 @@ reach-spec =
     (λ c. search needs)
     (λ c. search needs)
     (λ c. search needs)
-    sub-t16
-    add-t17
+    sub-t17
+    add-t18
     (λ c κs. search needs)
     returns
     returns-2)

@@ -10,9 +10,6 @@ returns : tie.Need-returns
 unfolding readMR4 readOf
 returns c = read-as _ _ (rw (c .if1 .taken))
 
-sense-at-requires : tie.Need-sense-at-requires
-sense-at-requires c κs = search needs
-
 returns-2 : tie.Need-returns-2
 unfolding readMR4
 returns-2 c = read-as _ _ (c .sense-at .ensures ∙ rw (c .before .before .if1 .left, c .before .if2 .taken))
@@ -22,4 +19,4 @@ unfolding readMR4 readOf
 returns-3 c = read-as _ _ (rw (c .before .if1 .left, c .if2 .left))
 
 pub read-mr4-spec : {M : Type 1} → statement M
-read-mr4-spec = tie.close (tie.spec returns sense-at-requires returns-2 returns-3)
+read-mr4-spec = tie.close (tie.spec returns (λ c κs. search needs) returns-2 returns-3)

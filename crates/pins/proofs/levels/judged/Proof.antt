@@ -4,30 +4,6 @@ use Rattle.pins.specs.Values.{commandOf, readOf}
 use Rattle.pins.proofs.levels.judged.Statement.{statement}
 use Rattle.pins.proofs.levels.judged.Tie as tie
 
-enum-known-read : tie.Need-enum-known-read
-enum-known-read c = search needs
-
-command-in-requires : tie.Need-command-in-requires
-command-in-requires c κs = search needs
-
-enum-known-read-2 : tie.Need-enum-known-read-2
-enum-known-read-2 c = search needs
-
-moves-as-requires : tie.Need-moves-as-requires
-moves-as-requires c κs = search needs
-
-enum-told : tie.Need-enum-told
-enum-told c = search needs
-
-enum-told-2 : tie.Need-enum-told-2
-enum-told-2 c = search needs
-
-enum-told-3 : tie.Need-enum-told-3
-enum-told-3 c = search needs
-
-enum-told-4 : tie.Need-enum-told-4
-enum-told-4 c = search needs
-
 returns : tie.Need-returns
 unfolding entries.judgedAs commandOf readOf
 returns c = cc
@@ -56,14 +32,14 @@ pub judged-spec : {M : Type 1} → statement M
 judged-spec =
     tie.close
     (tie.spec
-    enum-known-read
-    command-in-requires
-    enum-known-read-2
-    moves-as-requires
-    enum-told
-    enum-told-2
-    enum-told-3
-    enum-told-4
+    (λ c. search needs)
+    (λ c κs. search needs)
+    (λ c. search needs)
+    (λ c κs. search needs)
+    (λ c. search needs)
+    (λ c. search needs)
+    (λ c. search needs)
+    (λ c. search needs)
     returns
     returns-2
     returns-3

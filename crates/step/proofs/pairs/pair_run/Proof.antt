@@ -25,24 +25,23 @@ one-entry-requires c κs = c .before .loop .inv .sound
 small : (c : tie.Start Inv-loop μ-loop) → length (now (c .args .bytes)) < 2 ^ 64
 small c = omega (arith, c .good .1 .1 .0 .0)
 
-joined-requires : tie.Need-joined-requires Inv-loop μ-loop
-joined-requires c κs =
-    let at = c .before .before in
-    along-fits _ _ _ _ _ (at .loop .inv) _ (c .one-entry .ensures) (small (at .before .before .before))
-
 returns : tie.Need-returns Inv-loop μ-loop
 returns c =
-    let next = c .before .before in
-    let one = next .before in
+    let one = c .before .before in
     let at = one .before .before in
-    along-ends _ _ _ _ _ (at .loop .inv) _ (one .one-entry .ensures) _ (next .joined .ensures) (c .if1 .taken) ∙ rw (at .before .nothing .ensures)
+    along-ends _ _ _ _ _ (at .loop .inv) _ (one .one-entry .ensures) (c .if1 .taken) ∙ rw (at .before .nothing .ensures)
+
+joined-requires : tie.Need-joined-requires Inv-loop μ-loop
+joined-requires c κs =
+    let one = c .before .before in
+    let at = one .before .before in
+    along-fits _ _ _ _ _ (at .loop .inv) _ (one .one-entry .ensures) (small (at .before .before .before))
 
 loop-again : tie.Need-loop-again Inv-loop μ-loop
 loop-again c =
-    let next = c .before .before in
-    let one = next .before in
+    let one = c .before .before .before in
     let at = one .before .before in
-    along-next _ _ _ _ _ (at .loop .inv) _ (one .one-entry .ensures) _ (next .joined .ensures) (λ e. omega (arith, e, c .if1 .left)) _ (omega arith)
+    along-next _ _ _ _ _ (at .loop .inv) _ (one .one-entry .ensures) (c .before .if1 .left) _ (omega arith) _ (c .joined .ensures)
 
 returns-2 : tie.Need-returns-2 Inv-loop μ-loop
 returns-2 c = along-done _ _ _ _ _ (c .before .loop .inv) (omega arith) ∙ rw (c .before .before .nothing .ensures)
@@ -56,8 +55,8 @@ pair-run-spec =
     (λ c κs. search needs)
     loop-holds
     one-entry-requires
-    joined-requires
     returns
+    joined-requires
     (λ c. omega arith)
     (λ c. omega arith)
     loop-again

@@ -1,36 +1,35 @@
 -- Entry by entry, in place: each arm changes what the record after the entry has changed.
+use Prim.Native.Nat.{_+_, _-_}
 use mathlib.Core.Path.{refl, sym, _∙_}
 use native.Mathlib.Omega.{arith}
 use borrow.Author.Needs.{needs}
+use lib.ListN.{length, take, length-take}
 use Rattle.step.specs.Ready.{Nop, Act, Rd, Wr, Pre, Cold, hotWith}
 use Rattle.step.specs.Quick.{hotCount}
 use Rattle.step.proofs.Onward.{rest-of}
 use Rattle.step.proofs.Levels.{cold-with}
-use Rattle.step.proofs.Begun.{Going, unbegun, begun, finished}
+use Rattle.step.proofs.Begun.{Going, unbegun, begun}
 use Rattle.step.proofs.Went.{Saw, stopped, room, went}
 use Rattle.step.proofs.running.quick_run.Statement.{statement}
 use Rattle.step.proofs.running.quick_run.Tie as tie
 
 abbrev Inv-loop : tie.InvT-loop
-Inv-loop rec delays bytes most end waits mr2 refpb opened₀ pre₀ act₀ rd₀ rda₀ wr₀ wra₀ bus₀ four₀ last₀ used₀ nops₀ left₀ opened pre act rd rda wr wra bus four last used nops left =
-    Going delays rec bytes most (record { opened = opened; refpb = refpb; pre = pre; act = act; rd = rd; rda = rda; wr = wr; wra = wra }) bus four last used nops left
+Inv-loop rec delays bytes most end waits mr2 refpb opened₀ pre₀ act₀ rd₀ rda₀ wr₀ wra₀ bus₀ four₀ last₀ used₀ nops₀ within opened pre act rd rda wr wra bus four last used nops =
+    Going delays rec bytes most (record { opened = opened; refpb = refpb; pre = pre; act = act; rd = rd; rda = rda; wr = wr; wra = wra }) bus four last used nops
 
 abbrev μ-loop : tie.MeasureT-loop
-μ-loop rec delays bytes most end waits mr2 refpb opened₀ pre₀ act₀ rd₀ rda₀ wr₀ wra₀ bus₀ four₀ last₀ used₀ nops₀ left₀ opened pre act rd rda wr wra bus four last used nops left =
-    left
+μ-loop rec delays bytes most end waits mr2 refpb opened₀ pre₀ act₀ rd₀ rda₀ wr₀ wra₀ bus₀ four₀ last₀ used₀ nops₀ within opened pre act rd rda wr wra bus four last used nops =
+    length bytes + 1 - used
 
--- earlier places: the entry, the turn, the loop's head, and the first call
+-- earlier places: the entry, the loop's head, and the first call
 abbrev found : tie.After-passes Inv-loop μ-loop → tie.After-entry-at Inv-loop μ-loop
 found c = c .before .before .before .before .before .before .before .before .before .before .before .before .before .before .before
 
-abbrev turn : tie.After-passes Inv-loop μ-loop → tie.In-loop Inv-loop μ-loop
-turn c = found c .before .before
-
 abbrev head : tie.After-passes Inv-loop μ-loop → tie.At-loop Inv-loop μ-loop
-head c = turn c .before
+head c = found c .before .before
 
 abbrev first : tie.At-loop Inv-loop μ-loop → tie.After-deadline Inv-loop μ-loop
-first c = c .before .before .before .before .before .before .before .before .before .before .before .before .before .before .before
+first c = c .before .before .before .before .before .before .before .before .before .before .before .before .before .before .before .before .before
 
 -- what is known of an entry where the tests are made
 saw : (c : tie.After-passes Inv-loop μ-loop) →
@@ -38,19 +37,19 @@ saw : (c : tie.After-passes Inv-loop μ-loop) →
     let a = first (head c) .before .before .args in
     Saw (a .delays) (a .rec) (a .bytes .now) (a .most)
     (record { opened = l .opened; refpb = a .rec .share .banks .refpb; pre = l .pre; act = l .act; rd = l .rd; rda = l .rda; wr = l .wr; wra = l .wra })
-    (l .bus) (l .four) (l .last) (l .used) (l .nops) (l .left)
+    (l .bus) (l .four) (l .last) (l .used) (l .nops) (head c .before .before .most-bytes .result)
     (found c .entry-at .result)
     (hotWith (c .before .before .before .before .before .before .before .before .before .before .before .before .before .before .kind-on .result))
     (c .before .before .before .before .before .before .before .before .before .before .before .before .before .bank-on .result)
-    (head c .before .before .before .before .before .before .before .before .before .before .before .before .waits-of .result)
+    (head c .before .before .before .before .before .before .before .before .before .before .before .before .before .before .waits-of .result)
     (first (head c) .deadline .result) (c .before .ready .result) (c .passes .result)
 saw c = record {
   going = head c .loop .inv;
-  more = turn c .loop-test .taken;
-  front = rw (rest-of (first (head c) .before .before .args .bytes .now) (head c .loop .used)) at (found c .entry-at .ensures);
+  cut = head c .before .before .most-bytes .ensures;
+  front = rw (rest-of (take (head c .before .before .most-bytes .result) (first (head c) .before .before .args .bytes .now)) (head c .loop .used)) at (found c .entry-at .ensures);
   kind = c .before .before .before .before .before .before .before .before .before .before .before .before .before .before .kind-on .ensures;
   bank = c .before .before .before .before .before .before .before .before .before .before .before .before .before .bank-on .ensures;
-  waits = head c .before .before .before .before .before .before .before .before .before .before .before .before .waits-of .ensures;
+  waits = head c .before .before .before .before .before .before .before .before .before .before .before .before .before .before .waits-of .ensures;
   deadline = first (head c) .deadline .ensures;
   ready = c .before .ready .ensures;
   passes = c .passes .ensures;
@@ -61,7 +60,7 @@ returns c = unbegun _ _ _ _ (c .before .before .deadline .ensures) _ (c .before 
 
 loop-holds : tie.Need-loop-holds Inv-loop μ-loop
 loop-holds c =
-    let b = c .before .before .before .before .before .before .before .before .before .before .before in
+    let b = c .before .before .before .before .before .before .before .before .before .before .before .before .before in
     begun _ _ _ _ (b .before .before .before .deadline .ensures) _ (b .before .before .stands .ensures) _ (b .before .if1 .left)
 
 returns-2 : tie.Need-returns-2 Inv-loop μ-loop
@@ -127,9 +126,6 @@ loop-again-8 c =
     let r = c .match .rest in
     went (saw (e .before)) (e .if2 .left) Cold (cold-with _ (r .0 .0 .0 .0 .1) (r .0 .0 .0 .1) (r .0 .0 .1) (r .0 .1) (r .1)) _ refl _ refl _ refl _ refl _ refl
 
-returns-3 : tie.Need-returns-3 Inv-loop μ-loop
-returns-3 c = c .ended2 .ensures ∙ finished (c .before .before .loop .inv) (c .before .loop-test .left)
-
 pub quick-run-spec : {M : Type 1} → statement M
 quick-run-spec =
     tie.close
@@ -140,10 +136,12 @@ quick-run-spec =
     (λ c κs. search needs)
     returns
     (λ c κs. search needs)
+    (λ c κs. search needs)
+    (λ c. rw length-take (omega arith))
     loop-holds
-    (λ c. search needs)
-    (λ c. search needs)
-    (λ c. search needs)
+    (λ c. rw length-take (omega arith))
+    (λ c. rw length-take (omega arith))
+    (λ c. rw length-take (omega arith))
     (λ c κs. search needs)
     (λ c κs. search needs)
     (λ c κs. search needs)
@@ -170,7 +168,6 @@ quick-run-spec =
     (λ c κs. search needs)
     returns-2
     add-used
-    (λ c. search needs)
     add-nops
     (λ c. search needs)
     loop-again
@@ -214,6 +211,4 @@ quick-run-spec =
     (λ c. search needs)
     loop-again-7
     (λ c. search needs)
-    loop-again-8
-    (λ c κs. search needs)
-    returns-3)
+    loop-again-8)

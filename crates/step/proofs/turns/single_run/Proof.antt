@@ -22,18 +22,18 @@ loop-holds c = (rw (c .no-way .ensures) (begins-so-far _ _ _ _ (c .before .befor
 
 returns : tie.Need-returns Inv-loop μ-loop
 returns c =
-    let turned = c .before .before .before in
+    let turned = c .before .before in
     let start = turned .before .before in
     λ x. sym (turned .turn .ensures .ends (c .if1 .taken) x) ∙ turned .turn .ensures .same x ∙ turned .before .loop .inv .1 x ∙ rw (start .no-way .ensures) (begins _ _ _ x)
 
 loop-less : tie.Need-loop-less Inv-loop μ-loop
 loop-less c =
-    let t = c .before .before .before .turn .ensures in
+    let t = c .before .before .turn .ensures in
     omega (arith, t .not-less, t .so-far .within)
 
 loop-again : tie.Need-loop-again Inv-loop μ-loop
 loop-again c =
-    let turned = c .before .before .before in
+    let turned = c .before .before in
     (turned .turn .ensures .so-far, λ x. turned .turn .ensures .same x ∙ turned .before .loop .inv .1 x)
 
 pub single-run-spec : {M : Type 1} → statement M
