@@ -1,45 +1,19 @@
--- A temperature is recorded as a NOP at which clock-enable stays: of a share nothing but the ledger changes, whether the entry is its own or not.
+-- A temperature is recorded as a NOP at which clock-enable stays: of a record it changes the last stamp, the pace and the ledgers, and nothing else.
 use Prim.Native.Nat.{ℕ}
 use mathlib.Core.Path.{_≡_, refl}
 use mathlib.Core.Bool.{Bool, true, false}
 use Rattle.rules.specs.Commands.{nop, is, code, kindOf, carries, bare}
 use Rattle.rules.specs.Levels.{stays, isFall, risesFrom}
-use Rattle.rules.specs.Past.{registerAfter, counterAfter, opens, closes, openAfter, precharges}
-use Rattle.rules.specs.Delays.{
-  Ask,
-  lastMRW,
-  lastMRR,
-  lastREFab,
-  lastREFpb,
-  lastREFpb-to,
-  lastPRE-to,
-  lastPREA-to,
-  lastACT-to,
-  fourthLast,
-  lastRD,
-  lastWR,
-  lastRDorMRR,
-  lastRD-to,
-  lastRDA-to,
-  lastWR-to,
-  lastWRA-to,
-  lastFall,
-  lastPowerExit,
-  lastSelfExit,
-  means,
-  latestOf,
-  laggingOf,
-  fourthOf,
-  latestIf,
-  latestMove,
-  to,
-}
-use Rattle.rules.specs.Lent as lent
-use Rattle.rules.specs.Lent.{History, historyAfter}
+use Rattle.rules.specs.Whose.{Whose, isOf}
+use Rattle.rules.specs.Past.{registerAfter}
 use Rattle.pins.specs.Counter.{counterOn}
 use Rattle.ledger.specs.declared.Ledger.{Ledger}
+use Rattle.ledger.specs.declared.Pace.{Pace}
 use Rattle.bank.specs.declared.Share.{Share}
+use Rattle.bank.specs.declared.Ledgers.{Ledgers}
+use Rattle.bank.specs.declared.Record.{Record}
 use Rattle.bank.specs.After.{
+  onceAt,
   onceIf,
   notedIf,
   eachIf,
@@ -55,53 +29,16 @@ use Rattle.bank.specs.After.{
   shareAfter,
   withLedger,
   shareTaken,
-  shareBehind,
+  recordAfter,
 }
 
--- ---- to the bit
-share-nop : (s : Share) (t : ℕ) (g : Ledger) → shareAfter s nop stays t g ≡ withLedger s g
-unfolding shareAfter registerAfter counterOn latestAfter movesAfter busAfter fourAfter banksAfter stampedAfter openedAfter shuts onceIf notedIf eachIf notedEachIf isFall risesFrom is code kindOf carries bare
-share-nop s t g = refl
+share-nop : (own : Bool) (s : Share) (t : ℕ) (g : Ledger) → shareTaken own s nop stays t g ≡ withLedger s g
+unfolding shareTaken shareAfter registerAfter counterOn latestAfter movesAfter busAfter fourAfter banksAfter stampedAfter openedAfter shuts onceIf notedIf eachIf notedEachIf isFall risesFrom is code kindOf carries bare
+share-nop true s t g = refl
+share-nop false s t g = refl
 
-pub taken-nop : (own : Bool) (s : Share) (t : ℕ) (g : Ledger) → shareTaken own s nop stays t g ≡ withLedger s g
-unfolding shareTaken
-taken-nop true s t g = share-nop s t g
-taken-nop false s t g = refl
-
--- ---- to the rules
-history-nop : (n t m : ℕ) (h : History) (a : Ask) (b : ℕ) → historyAfter nop stays n t m h (record { ask = a; bank = b }) ≡ h (record { ask = a; bank = b })
-unfolding historyAfter means latestOf laggingOf fourthOf latestIf latestMove to precharges isFall risesFrom is code kindOf carries bare
-history-nop n t m h lastMRW b = refl
-history-nop n t m h lastMRR b = refl
-history-nop n t m h lastREFab b = refl
-history-nop n t m h lastREFpb b = refl
-history-nop n t m h lastREFpb-to b = refl
-history-nop n t m h lastPRE-to b = refl
-history-nop n t m h lastPREA-to b = refl
-history-nop n t m h lastACT-to b = refl
-history-nop n t m h fourthLast b = refl
-history-nop n t m h lastRD b = refl
-history-nop n t m h lastWR b = refl
-history-nop n t m h lastRDorMRR b = refl
-history-nop n t m h lastRD-to b = refl
-history-nop n t m h lastRDA-to b = refl
-history-nop n t m h lastWR-to b = refl
-history-nop n t m h lastWRA-to b = refl
-history-nop n t m h lastFall b = refl
-history-nop n t m h lastPowerExit b = refl
-history-nop n t m h lastSelfExit b = refl
-
-lent-nop : (t : ℕ) (g : lent.Ledger) (s : lent.Share) → lent.shareAfter nop stays t g s ≡ lent.withLedger g s
-unfolding lent.shareAfter lent.withLedger registerAfter openAfter opens closes precharges counterAfter risesFrom is code kindOf carries bare
-lent-nop t g s = λ i. record {
-  mr2 = s .mr2;
-  open? = s .open?;
-  counter = s .counter;
-  history = λ q. history-nop (s .counter) t (s .mr2) (s .history) (q .ask) (q .bank) i;
-  ledger = g;
-}
-
-pub behind-nop : (own : Bool) (t : ℕ) (g : lent.Ledger) (s : lent.Share) → shareBehind own nop stays t g s ≡ lent.withLedger g s
-unfolding shareBehind
-behind-nop true t g s = lent-nop t g s
-behind-nop false t g s = refl
+-- whosever it is
+pub sensed-alone : (r : Record) (w : Whose) (t : ℕ) (g : Ledgers) (z : Pace) → recordAfter r w nop stays t g z
+    ≡ record { card = r .card; last = onceAt t; pace = z; first = withLedger (r .first) (g .first); second = withLedger (r .second) (g .second) }
+unfolding recordAfter
+sensed-alone r w t g z = rw (share-nop (isOf 0 w) (r .first) t (g .first), share-nop (isOf 1 w) (r .second) t (g .second))

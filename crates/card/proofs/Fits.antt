@@ -1,15 +1,15 @@
--- The delays of a card in range, by any temperature, are within 32 bits, and so is I: the facts over their sizes.
-use Prim.Native.Nat.{ℕ, _+_, _*_, _-_, _/_, _≤_, _<_}
+-- The delays of a card in range, by any temperature, are within 32 bits: the facts over their sizes.
+use Prim.Native.Nat.{ℕ, _+_, _-_, _≤_, _<_}
 use mathlib.Core.Path.{_≡_}
-use mathlib.Core.Bool.{Bool, true, false, cond, _||_}
-use native.Mathlib.Nat.{div-le-self, div-lt-iff-lt-mul, mul-le-mul-left}
+use mathlib.Core.Bool.{Bool, true, false, cond}
+use native.Mathlib.Nat.{div-le-self}
 use native.Mathlib.Omega.{arith}
-use lib.Dec.{leb, ltb, eqb, lit<}
+use lib.Dec.{leb, ltb, lit<}
 use borrow.Author.Tests.{leb-true}
 use Rattle.rules.specs.Card as paper
-use Rattle.rules.specs.Ranges.{periodGood, trefiGood, timingGood, raiseGood, cardGood}
+use Rattle.rules.specs.Ranges.{periodGood, timingGood, raiseGood, cardGood}
 use Rattle.rules.specs.Units.{roundedUp, n, rowCycle, delaysOf}
-use Rattle.rules.specs.Heat.{heat, quarters, intervalAt, isHot, longer, hotCard, delaysAt}
+use Rattle.rules.specs.Heat.{isHot, longer, hotCard, delaysAt}
 use Rattle.rules.proofs.Tests.{both-true}
 use Rattle.rules.proofs.Rounding.{within-both}
 use Rattle.rules.proofs.CardGood.{good-parts}
@@ -115,26 +115,3 @@ module _ (card : Card) (good : cardGood (cardOf card) ≡ true) where
 
   pub fits : (v : ℕ) → shortened (delaysAt (cardOf card) v) ≡ delaysAt (cardOf card) v
   fits v = rw (delays-by card v) at (hot-fits (raiseAt card v) (raise-low v))
-
-quarters-low : (c : ℕ) → quarters c ≤ 16
-unfolding quarters
-quarters-low c = go (eqb c 0b001) (eqb c 0b010) (eqb c 0b100) (eqb c 0b101 || eqb c 0b110)
-  where
-    go : (x y z w : Bool) → cond x 16 (cond y 8 (cond z 2 (cond w 1 4))) ≤ 16
-    go true y z w = omega arith
-    go false true z w = omega arith
-    go false false true w = omega arith
-    go false false false true = omega arith
-    go false false false false = omega arith
-
--- four times the longest tREFI over the shortest period
-pub interval-low : (card : paper.Card) → cardGood card ≡ true → (v : ℕ) → intervalAt card v ≤ 85_287
-unfolding intervalAt periodGood trefiGood
-interval-low card good v =
-    let g = good-parts card good in
-    let p = within-both 938 100_000 (card .period) (g .period) in
-    let t = within-both (card .period) 20_000_000 (card .trefi) (g .trefi) in
-    let w = mul-le-mul-left (card .trefi) (quarters-low (heat v)) in
-    let h : 0 < card .period * 4 = omega (arith, p .0) in
-    let l : card .trefi * quarters (heat v) / (card .period * 4) < 85_288 = div-lt-iff-lt-mul h .1 (omega (arith, p .0, t .1, w)) in
-    omega arith

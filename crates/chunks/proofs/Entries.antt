@@ -15,7 +15,7 @@ use Rattle.rules.proofs.Tests.{both-true}
 use Rattle.card.specs.Reading as reading
 use Rattle.card.proofs.Lengths.{as-listed}
 use Rattle.pins.specs.Fronts.{isEntry, frontAs, frontOf}
-use Rattle.pins.proofs.Fronts.{entry-room, front-first}
+use Rattle.pins.proofs.Fronts.{entry-room, front-take}
 use Rattle.ledger.specs.Values.{isNone}
 use Rattle.bank.specs.declared.Record.{Record}
 use Rattle.bank.specs.Values.{lentOf}
@@ -88,7 +88,7 @@ refused-in rec bs t = rw (entry-in bs (t .whole) (t .size)) (rw (t .whole) at (t
 pub entry-part : (bs : List ℕ) → frontOf bs .whole ≡ true → form.entryOf (fieldIn (take 10 bs)) ≡ entryAt bs
 entry-part bs w =
     let l = entry-room bs w in
-    let e = front-first bs l in
+    let e = front-take bs 10 0 (λ h. omega arith) in
     entry-in (take 10 bs) (rw e w) (length-take-le 10 bs l) ∙ rw e
 
 -- ---- a whole field with the tag of an entry of pins
@@ -109,7 +109,7 @@ module _ (st : State) (bs : List ℕ) (n : ℕ) (f : Fronted (st .rec .last .see
       let l : 10 ≤ length bs = let h = f .long in let e = ten in omega arith in
       let c = f .count in
       let e = ten in
-      let same : frontOf (take n bs) ≡ frontOf bs = rw ten (front-first bs l) in
+      let same : frontOf (take n bs) ≡ frontOf bs = rw ten (front-take bs 10 0 (λ h. omega arith)) in
       record {
         size = length-take-le n bs (f .long) ∙ ten;
         whole = rw same (is-front bs l tag-here (omega arith));

@@ -17,7 +17,7 @@ use Rattle.ledger.specs.declared.account.First.{First}
 use Rattle.ledger.specs.declared.account.Idle.{Idle}
 use Rattle.ledger.specs.declared.account.Idle.the-variants.{Stands, Breaks}
 use Rattle.ledger.specs.Values.{overAt, lateAt, closedAt}
-use Rattle.ledger.specs.Parts.{Spaced, FirstAs, stands, breaks, outcome, below, tested, idleTo}
+use Rattle.ledger.specs.Parts.{Spaced, FirstAs, stands, breaks, outcome, until, tested, idleTo}
 
 pub breaks-tell : {q m p n : ℕ} → Path Idle (Breaks q m) (Breaks p n) → m ≡ n
 breaks-tell e = cc
@@ -138,15 +138,15 @@ module _ (b : Beat) (s o last : ℕ) (positive : 0 < b .span) (low : o ≤ 16) w
   unfolding firstNext lpddr3
   fails-by j h = first j ∙ rw (lt-leb (suc (s + j)) (closedAt b s o last) (omega arith))
 
-below-least : (x : Bool) (t : ℕ) → t ≤ below x t
-unfolding below
-below-least true t = omega arith
-below-least false t = omega arith
+until-least : (x : Bool) (t : ℕ) → t ≤ until x t
+unfolding until
+until-least true t = omega arith
+until-least false t = omega arith
 
-below-most : (x : Bool) (t : ℕ) → below x t ≤ suc t
-unfolding below
-below-most true t = omega arith
-below-most false t = omega arith
+until-most : (x : Bool) (t : ℕ) → until x t ≤ suc t
+unfolding until
+until-most true t = omega arith
+until-most false t = omega arith
 
 module _ (b : Beat) (s o to : ℕ) (positive : 0 < b .span) (low : o ≤ 16) (later : s ≤ to) where
   whole : s + (to - s) ≡ to
@@ -174,31 +174,31 @@ module _ (b : Beat) (s o to : ℕ) (positive : 0 < b .span) (low : o ≤ 16) (la
       omega (arith, low, few (16 - o + 1) (rw e (omega (arith, positive))))
 
   module _ (last : ℕ) where
-    none-tested : (x : Bool) → below x to ≤ closedAt b s o last → firstIdle lpddr3 (steady b) (subℕ o 8) last s s (tested x (to - s)) ≡ none
-    unfolding below tested
+    none-tested : (x : Bool) → until x to ≤ closedAt b s o last → firstIdle lpddr3 (steady b) (subℕ o 8) last s s (tested x (to - s)) ≡ none
+    unfolding until tested
     none-tested true h = none-by b s o last positive low (to - s) (omega (arith, later))
     none-tested false h = none-by b s o last positive low (to - s - 1) (omega (arith, later, closed-ahead b s o last positive))
 
-    fails-tested : (x : Bool) → closedAt b s o last < below x to →
+    fails-tested : (x : Bool) → closedAt b s o last < until x to →
         firstIdle lpddr3 (steady b) (subℕ o 8) last s s (tested x (to - s)) ≡ some (rule b s o last positive low, closedAt b s o last)
-    unfolding below tested
+    unfolding until tested
     fails-tested true h = fails-by b s o last positive low (to - s) (omega (arith, later))
     fails-tested false h = fails-by b s o last positive low (to - s - 1) (omega (arith, later))
 
     -- by the first that the code finds; a number that fails is one of those passed
     module _ (x : Bool) (r : First) (f : FirstAs b s o last r) where
-      pub within-first : below x to ≤ r .number → (y z : ℕ) → y ≡ fallen b to → z ≡ fallen b s → o + (y - z) ≤ 17
-      within-first h y z ey ez = rw (ey, ez) (within-one (omega (arith, below-least x to, f .number-is)))
+      pub within-first : until x to ≤ r .number → (y z : ℕ) → y ≡ fallen b to → z ≡ fallen b s → o + (y - z) ≤ 17
+      within-first h y z ey ez = rw (ey, ez) (within-one (omega (arith, until-least x to, f .number-is)))
 
-      pub stands-as : below x to ≤ r .number → (y z : ℕ) → y ≡ fallen b to → z ≡ fallen b s → stands (subℕ (o + (y - z)) 8) ≡ idleTo x b s o last (to - s)
+      pub stands-as : until x to ≤ r .number → (y z : ℕ) → y ≡ fallen b to → z ≡ fallen b s → stands (subℕ (o + (y - z)) 8) ≡ idleTo x b s o last (to - s)
       unfolding idleTo outcome owedAt
       stands-as h y z ey ez =
           let e : idle 8 (steady b) (subℕ o 8) s (to - s) ≡ subℕ (o + (fallen b (s + (to - s)) - fallen b s)) 8 = idle-beat b positive 8 o s (to - s) in
           rw (ey, ez, none-tested x (rw (f .number-is) at h)) (sym (ap stands (rw whole at e)))
 
-      pub breaks-as : r .number < below x to → breaks (r .rule) (r .number) ≡ idleTo x b s o last (to - s)
+      pub breaks-as : r .number < until x to → breaks (r .rule) (r .number) ≡ idleTo x b s o last (to - s)
       unfolding idleTo outcome
       breaks-as h = rw (f .rule-is, f .number-is, fails-tested x (rw (f .number-is) at h))
 
-      pub passed-as : r .number < below x to → (s < r .number) × (r .number ≤ to)
-      passed-as h = (rw (f .number-is) (closed-ahead b s o last positive), omega (arith, below-most x to))
+      pub passed-as : r .number < until x to → (s < r .number) × (r .number ≤ to)
+      passed-as h = (rw (f .number-is) (closed-ahead b s o last positive), omega (arith, until-most x to))

@@ -17,8 +17,8 @@ use Rattle.rules.proofs.Decided.{orElse-none}
 use Rattle.rules.proofs.Idle.{owedAt, idle-beat}
 use Rattle.rules.proofs.Beats.{interval-least}
 use Rattle.rules.proofs.Clocked.{relabel}
-use Rattle.rules.proofs.Closed.{failing-through}
-use Rattle.rules.proofs.Ledgers.{number-to}
+use Rattle.rules.proofs.Closed.{firstAmong, failing-through}
+use Rattle.rules.proofs.Ledgers.{number-to, none-yet}
 use Rattle.rules.proofs.Taken.{owing-biased}
 use Rattle.card.specs.Values.{cardOf}
 use Rattle.card.specs.declared.Card.{Card}
@@ -92,30 +92,26 @@ module _ (card : Card) (pace : Pace) (g : Ledger) where
     is : deadlineOf card pace g ≡ g .at + (closed - n)
     is = sym (running ok runs) ∙ (unfold deadlineBy in refl)
 
-    through : (t : ℕ) → failingTo b (ledgerOf g) (suc t)
-        ≡ relabel (λ m. g .at + (m - n)) (firstIdle lpddr3 (steady b) (subℕ (g .owed) 8) (g .since) n n (t - g .at))
-    unfolding ledgerOf
+    through : (t : ℕ) → failingTo b (ledgerOf g) (suc t) ≡ firstAmong b (ledgerOf g) (t - g .at)
     through t = rw (counts runs t) at (failing-through b (ledgerOf g) t)
 
     none-until : (t : ℕ) → t < deadlineOf card pace g → failingTo b (ledgerOf g) (suc t) ≡ none
+    unfolding ledgerOf
     none-until t h =
         let l : n + (t - g .at) < closed = omega (arith, is, ahead) in
         through t ∙ rw (none-by b n (g .owed) (g .since) spanned (s .low) (t - g .at) l) (unfold relabel in refl)
-
-    not-yet : (t : ℕ) → t ≤ g .at → failingTo b (ledgerOf g) t ≡ none
-    unfolding failingTo ledgerOf firstIdle
-    not-yet t h = let z : t - suc (g .at) ≡ 0 = omega arith in rw (z, runs)
 
     pub none-before : (t : ℕ) → t ≤ deadlineOf card pace g → failingTo b (ledgerOf g) t ≡ none
     none-before t h = ⊎-elim
         (λ (p : (g .at < t) × (ltb (g .at) t ≡ true)).
         let u : suc (t - 1) ≡ t = omega arith in
         rw u at (none-until (t - 1) (omega arith)))
-        (λ (p : (t ≤ g .at) × (ltb (g .at) t ≡ false)). not-yet t (p .0))
+        (λ (p : (t ≤ g .at) × (ltb (g .at) t ≡ false)). none-yet b (ledgerOf g) t (unfold ledgerOf in omega arith))
         (lt-cases (g .at) t)
 
     pub one-there : failingTo b (ledgerOf g) (suc (deadlineOf card pace g))
         ≡ some (cond (leb (overAt b n (g .owed)) (lateAt (b .span) n (g .since))) 19 20, deadlineOf card pace g)
+    unfolding ledgerOf
     one-there =
         let z : g .at + (closed - n) - g .at ≡ closed - n = omega arith in
         let f = fails-by b n (g .owed) (g .since) spanned (s .low) (closed - n) (omega (arith, ahead)) in

@@ -21,7 +21,7 @@ use Rattle.ledger.specs.declared.Effect.{Effect}
 use Rattle.ledger.specs.declared.Answer.the-variants.{Done}
 use Rattle.ledger.specs.declared.After.{After}
 use Rattle.ledger.specs.Values.{ledgerOf, effectOf, refusalOf, isNone, unlessRefused, Left}
-use Rattle.ledger.specs.Parts.{below, changedBy, accountOf, newOf}
+use Rattle.ledger.specs.Parts.{until, changedBy, accountOf, newOf}
 
 -- what an answer that is a refusal, and one that is none, says of the promise
 pub refused-left : (o : Option Refusal) (old new : lent.Ledger) (r : After) → Left o old new r → isNone (refusalOf (r .answer)) ≡ false →
@@ -75,16 +75,16 @@ entered-there x b g t = refl
 
 -- the account alone: where the ledger came to, and what an entry does there
 module _ (g : Ledger) (x : lent.Effect) (b : Beat) (t : ℕ) (entry : Bool) (r : After)
-    (l : Left (named 11 (failingTo b (ledgerOf g) (below (not entry) t))) (ledgerOf g) (ledgerTo b (ledgerOf g) t) r)
+    (l : Left (named 11 (failingTo b (ledgerOf g) (until (not entry) t))) (ledgerOf g) (ledgerTo b (ledgerOf g) t) r)
     (done : Bool) (e : done ≡ isNone (refusalOf (r .answer))) where
   abbrev Gone : Bool → After → Type 0
   Gone y = Left (accountOf y x b (ledgerOf g) t) (ledgerOf g) (newOf y x b (ledgerOf g) t)
 
   pub stays-so : (not entry || not done) ≡ true → Gone entry r
-  unfolding accountOf newOf below orElse
+  unfolding accountOf newOf until orElse
   stays-so = go entry done l e
     where
-      go : (y d : Bool) → Left (named 11 (failingTo b (ledgerOf g) (below (not y) t))) (ledgerOf g) (ledgerTo b (ledgerOf g) t) r →
+      go : (y d : Bool) → Left (named 11 (failingTo b (ledgerOf g) (until (not y) t))) (ledgerOf g) (ledgerTo b (ledgerOf g) t) r →
           d ≡ isNone (refusalOf (r .answer)) → (not y || not d) ≡ true → Gone y r
       go false d k n h = k
       go true false k n h = refused-left _ _ _ r k (sym n) _ (λ z q. rw q) _
@@ -92,10 +92,10 @@ module _ (g : Ledger) (x : lent.Effect) (b : Beat) (t : ℕ) (entry : Bool) (r :
 
   pub changes-so : (not entry || not done) ≡ false → (h : Ledger) → ledgerOf h ≡ changedBy x (ledgerOf (r .ledger)) →
       (k : After) → Left (named 11 (failingOf b (ledgerOf h))) (ledgerOf g) (ledgerOf h) k → Gone entry k
-  unfolding accountOf newOf below orElse
+  unfolding accountOf newOf until orElse
   changes-so n h eh k kept = go entry done l e n
     where
-      go : (y d : Bool) → Left (named 11 (failingTo b (ledgerOf g) (below (not y) t))) (ledgerOf g) (ledgerTo b (ledgerOf g) t) r →
+      go : (y d : Bool) → Left (named 11 (failingTo b (ledgerOf g) (until (not y) t))) (ledgerOf g) (ledgerTo b (ledgerOf g) t) r →
           d ≡ isNone (refusalOf (r .answer)) → (not y || not d) ≡ false → Gone y k
       go true true m n q = let p = stood-left _ _ _ r m (sym n) in rw (p .0, ← entered-there x b (ledgerOf g) t, ← p .1, ← eh) kept
       go true false m n q = let z : _≡_ {A = ℕ} 0 1 = cc in absurd (omega arith)

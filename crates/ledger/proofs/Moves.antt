@@ -21,7 +21,7 @@ use Rattle.ledger.specs.declared.Answer.{Answer}
 use Rattle.ledger.specs.declared.Answer.the-variants.{Done, Overdue}
 use Rattle.ledger.specs.declared.After.{After}
 use Rattle.ledger.specs.Values.{ledgerOf, refusalOf, unlessRefused, Left}
-use Rattle.ledger.specs.Parts.{stands, breaks, outcome, idleOf, below, tested, idleTo, shifted}
+use Rattle.ledger.specs.Parts.{stands, breaks, outcome, idleOf, until, tested, idleTo, shifted}
 
 -- an outcome is one of the two, and tells the account apart
 told-stands : (z w : ℤ) (o : Option (ℕ × ℕ)) → outcome z o ≡ stands w → (z ≡ w) × (o ≡ none)
@@ -54,7 +54,7 @@ module _ (g : Ledger) (b : Beat) (to : ℕ) (x : Bool) where
   c = countedTo (ledgerOf g) to
 
   abbrev MovedOn : After → Type 0
-  MovedOn = Left (named 11 (failingTo b (ledgerOf g) (below x to))) (ledgerOf g) (ledgerTo b (ledgerOf g) to)
+  MovedOn = Left (named 11 (failingTo b (ledgerOf g) (until x to))) (ledgerOf g) (ledgerTo b (ledgerOf g) to)
 
   same-cycles : n + c - n ≡ c
   same-cycles = omega arith
@@ -64,13 +64,13 @@ module _ (g : Ledger) (b : Beat) (to : ℕ) (x : Bool) where
   unfolding shifted ledgerTo ledgerOf lpddr3
   shifts w e = λ i. record { at = to; owing = sym e i; since = g .since; skipped = to - (n + c); level = levelOf (g .level) }
 
-  failing-by : (y : Bool) → failingTo b (ledgerOf g) (below y to) ≡ firstAmong b (ledgerOf g) (tested y c)
-  unfolding below tested
+  failing-by : (y : Bool) → failingTo b (ledgerOf g) (until y to) ≡ firstAmong b (ledgerOf g) (tested y c)
+  unfolding until tested
   failing-by true = failing-through b (ledgerOf g) to
   failing-by false = failing-below b (ledgerOf g) to
 
   failing : (o : Option (ℕ × ℕ)) → firstIdle lpddr3 (steady b) (subℕ (g .owed) 8) (g .since) n n (tested x c) ≡ o →
-      failingTo b (ledgerOf g) (below x to) ≡ relabel (λ m. g .at + (m - n)) o
+      failingTo b (ledgerOf g) (until x to) ≡ relabel (λ m. g .at + (m - n)) o
   unfolding ledgerOf
   failing o e = failing-by x ∙ ap (relabel (λ m. g .at + (m - n))) e
 

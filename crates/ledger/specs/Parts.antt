@@ -48,9 +48,9 @@ idleOf (Stands x) = stands (subℕ x 8)
 idleOf (Breaks q t) = breaks q t
 
 -- 19 and 20 are asked below this place: through t also at it, up to t not
-unfoldable pub below : (through : Bool) → ℕ → ℕ
-below true t = suc t
-below false t = t
+unfoldable pub until : (through : Bool) → ℕ → ℕ
+until true t = suc t
+until false t = t
 
 -- at so many of j numbers
 unfoldable pub tested : (through : Bool) → ℕ → ℕ

@@ -87,8 +87,8 @@ pub fn first_failing(beat: Beat, n: u32, owed: u8, since: u32) -> First
 }
 
 // 19 and 20 are asked at the numbers below this one.
-fn below(to: u32, through: bool) -> u64
-    ensures { λ r. ⌜ r ≡ parts.below through to ⌝ }
+fn until(to: u32, through: bool) -> u64
+    ensures { λ r. ⌜ r ≡ parts.until through to ⌝ }
 {
     if through {
         return to as u64 + 1;
@@ -102,7 +102,7 @@ pub fn idle_to(beat: Beat, n: u32, owed: u8, since: u32, to: u32, through: bool)
     ensures { λ r. ⌜ IdleDone (beatAs beat) n owed since to through r ⌝ }
 {
     let first = first_failing(beat, n, owed, since);
-    if below(to, through) <= first.number {
+    if until(to, through) <= first.number {
         return Idle::Stands(owed + (fallen(beat, to) - fallen(beat, n)) as u8);
     }
     Idle::Breaks {

@@ -5,7 +5,7 @@ ghost use Rattle.rules.specs.Checks.{named};
 ghost use Rattle.rules.specs.Lent.{numberOf, countedTo, ledgerTo, failingTo};
 ghost use Rattle.pins.specs.Values.{levelOf};
 ghost use Rattle.ledger.specs.Values.{ledgerOf, afterAs, Left};
-ghost use Rattle.ledger.specs.Parts.{beatAs, Later, ReachArgs, below, shifted};
+ghost use Rattle.ledger.specs.Parts.{beatAs, Later, ReachArgs, shifted, until};
 use crate::After;
 use crate::Answer;
 use crate::Ledger;
@@ -75,7 +75,7 @@ pub fn shift(ledger: Ledger, to: u32, owed: u8) -> Ledger
 // A sound ledger moved on to a later cycle, or through it: then 19 and 20 are asked there too.
 pub fn reach(ledger: Ledger, beat: Beat, to: u32, through: bool) -> After
     requires { ⌜ ReachArgs ledger (beatAs beat) to ⌝ }
-    ensures { λ r. ⌜ Left (named 11 (failingTo (beatAs beat) (ledgerOf ledger) (below through to))) (ledgerOf ledger) (ledgerTo (beatAs beat) (ledgerOf ledger) to) r ⌝ }
+    ensures { λ r. ⌜ Left (named 11 (failingTo (beatAs beat) (ledgerOf ledger) (until through to))) (ledgerOf ledger) (ledgerTo (beatAs beat) (ledgerOf ledger) to) r ⌝ }
 {
     let n = number_of(ledger);
     let m = n + counted_to(ledger, to);

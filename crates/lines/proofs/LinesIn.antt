@@ -17,7 +17,7 @@ use Rattle.rules.specs.Entries.{commandOf, recordedAs, moveOf}
 use Rattle.pins.specs.declared.Front.{Front}
 use Rattle.pins.specs.Counter.{counterOn}
 use Rattle.pins.specs.Fronts.{frontOf}
-use Rattle.pins.proofs.Fronts.{front-first}
+use Rattle.pins.proofs.Fronts.{front-take}
 use Rattle.lines.specs.declared.runs.Next.{Next}
 use Rattle.lines.specs.declared.stamps.Lead.{Lead}
 use Rattle.lines.specs.Written.{Put}
@@ -154,9 +154,9 @@ module _ (sleeps paired : Bool) where
       let e : 10 * suc i ≡ 10 + 10 * i = omega arith in
       rw (e, ← drop-drop (10 * i) 10 bs) (stands-more i (next x bs) (drop 10 bs))
 
-  module _ (i : ℕ) (s : Standing) (bs : List ℕ) (f : Front) (read : f ≡ frontOf (take 10 (drop (10 * i) bs))) (room : 10 * i + 10 ≤ length bs) where
+  module _ (i : ℕ) (s : Standing) (bs : List ℕ) (f : Front) (read : f ≡ frontOf (take 10 (drop (10 * i) bs))) where
     there : f ≡ frontOf (drop (10 * i) bs)
-    there = read ∙ front-first (drop (10 * i) bs) (rw length-drop (omega arith))
+    there = read ∙ front-take (drop (10 * i) bs) 10 0 (λ h. omega arith)
 
     line-there : (x : Standing) → lineOn sleeps paired (f .stamp) (f .pins) x ≡ line x (drop (10 * i) bs)
     unfolding lineAt

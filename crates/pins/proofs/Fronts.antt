@@ -1,17 +1,18 @@
 -- What stands at a place of some bytes: an entry field, or a stamp.
 use Prim.Native.Nat.{ℕ, _+_, _*_, _-_, _/_, _%_, _^_, _≤_, _<_}
 use mathlib.Core.Path.{_≡_, refl, sym, _∙_}
+use mathlib.Core.Logic.{⊎-elim}
 use mathlib.Core.Bool.{Bool, true, false, cond, _&&_}
 use mathlib.Core.List.{List, [], _∷_, _++_}
 use native.Mathlib.Nat.{add-zero, div-one}
 use native.Mathlib.Omega.{arith}
-use lib.Dec.{leb, eqb}
-use lib.ListN.{length, getD, take, drop, length-append, length-drop, take-append-drop, List·getD-append}
-use lib.Seq.{getD-drop, drop-drop, take-append-le, drop-append-le, length-take-le}
+use lib.Dec.{leb, ltb, eqb}
+use lib.ListN.{length, getD, take, drop, length-append, length-take, length-drop, take-append-drop, List·getD-append}
+use lib.Seq.{getD-drop, drop-drop, take-append-le, drop-append-le}
 use borrow.Author.Tests.{le-leb, lt-leb, leb-true, eq-eqb, eqb-true}
 use Rattle.rules.specs.Form.{number}
 use Rattle.rules.specs.Writer.{bigEndian, fieldBytes, entryBytes}
-use Rattle.rules.proofs.Tests.{both-true}
+use Rattle.rules.proofs.Tests.{lt-cases, both-true}
 use Rattle.rules.proofs.Bytes.{number-bytes}
 use Rattle.pins.specs.Fronts.{isHead, isEntry, frontAs, frontOf, stampIn}
 
@@ -89,8 +90,14 @@ front-append a b h =
       take-append-le 3 (drop 7 a) b (rw length-drop (omega arith)),
     )
 
-pub front-first : (bs : List ℕ) → 10 ≤ length bs → frontOf (take 10 bs) ≡ frontOf bs
-front-first bs h = sym (front-append (take 10 bs) (drop 10 bs) (rw (length-take-le 10 bs h) (omega arith))) ∙ rw (take-append-drop 10 bs)
+-- so what stands at a place does not hang on where the bytes are cut behind it
+pub front-take : (v : List ℕ) (size at : ℕ) → (at + 10 ≤ length v → at + 10 ≤ size) → frontOf (drop at (take size v)) ≡ frontOf (drop at v)
+front-take v size at h = ⊎-elim
+    (λ (p : (length v < at + 10) × (ltb (length v) (at + 10) ≡ true)). sym (no-entry (take size v) at (rw length-take (omega arith))) ∙ no-entry v at (p .0))
+    (λ (p : (at + 10 ≤ length v) × (ltb (length v) (at + 10) ≡ false)).
+    sym (front-append (drop at (take size v)) (drop size v) (rw (length-drop, length-take) (omega (arith, h (p .0)))))
+    ∙ rw (← drop-append-le at (take size v) (drop size v) (rw length-take (omega (arith, h (p .0)))), take-append-drop size v))
+    (lt-cases (length v) (at + 10))
 
 -- ---- the ten bytes that are put, and how they are read
 abbrev pub fieldOf : (stamp pins : ℕ) → List ℕ

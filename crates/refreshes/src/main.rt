@@ -1,7 +1,7 @@
 // The refresh cases of document 01, refusals, sleeps, temperatures, and moves over all 2^32 cycles. A line each: the refusal's number, rule and cycle, then
 // the ledger's cycle, number with 8 added, where the gap counts from, cycles not counted, and level. A line of two numbers is a pace, its next due and MR4,
 // and a line of one a deadline. The file stdout is worked out by expected.py, due by due.
-ghost use Prim.Native.Nat.{_≤_, _<_};
+ghost use Prim.Native.Nat.{_+_, _≤_, _<_, _^_};
 use ledger::Ledger;
 use pins::Level;
 use pins::Move;
@@ -78,37 +78,32 @@ fn refusals() {
     ));
 }
 
-// Eight intervals at a time, and then nine refreshes, up to the last stamp there is.
-fn all_cycles(from: Ledger) -> Ledger {
-    let mut ledger = from;
-    let mut to: u64 = 24960;
-    while to < 4294967296 {
-        ledger = refreshes(
-            ledger::moved(ledger, show::first(), card::bench(), to as u32).ledger,
-            to as u32,
-            9,
-        );
-        to += 25792;
+// Eight intervals on, nine refreshes there, and behind them a self-refresh of so many cycles, or none.
+fn round(ledger: Ledger, to: u64, asleep: u64) -> Ledger
+    requires { ⌜ to + (833 + asleep) < 2 ^ 32 ⌝ }
+{
+    let stamp = to as u32;
+    let there = ledger::moved(ledger, show::first(), card::bench(), stamp).ledger;
+    let paid = refreshes(there, stamp, 9);
+    if asleep == 0 {
+        return paid;
     }
-    ledger
+    comes(
+        comes(paid, stamp + 833, Move::Falls(Level::SelfRefresh)),
+        (to + (833 + asleep)) as u32,
+        Move::Rises(Level::SelfRefresh),
+    )
 }
 
-// The same with a self-refresh of 100,000 cycles behind the refreshes.
-fn all_sleeping(from: Ledger) -> Ledger {
+// Round behind round, up to the last stamp there is.
+fn all_cycles(from: Ledger, asleep: u64) -> Ledger
+    requires { ⌜ asleep ≤ 100000 ⌝ }
+{
     let mut ledger = from;
-    let mut to: u64 = 24960;
-    while to < 4294866462 {
-        let paid = refreshes(
-            ledger::moved(ledger, show::first(), card::bench(), to as u32).ledger,
-            to as u32,
-            9,
-        );
-        ledger = comes(
-            comes(paid, (to + 833) as u32, Move::Falls(Level::SelfRefresh)),
-            (to + 100833) as u32,
-            Move::Rises(Level::SelfRefresh),
-        );
-        to += 125792;
+    let mut to = 24960;
+    while to + (833 + asleep) < 4294967296 {
+        ledger = round(ledger, to, asleep);
+        to += 25792 + asleep;
     }
     ledger
 }
@@ -131,6 +126,6 @@ fn main() {
         4294967295,
     );
     moves(lent(4294967000, 16, 0, 4294939000, Level::Deep), 4294967295);
-    moves(all_cycles(stands(0, 8, 0)), 4294967295);
-    moves(all_sleeping(stands(0, 8, 0)), 4294940000);
+    moves(all_cycles(stands(0, 8, 0), 0), 4294967295);
+    moves(all_cycles(stands(0, 8, 0), 100000), 4294940000);
 }

@@ -178,10 +178,12 @@ fn odd_cards() {
 }
 
 // Every 700 cycles two refreshes and then a field, of one code after the other.
-fn turn(ledger: Ledger, pace: Pace, i: u32) -> Stood
+fn turn(from: Stood, i: u32) -> Stood
     requires { ⌜ i < 60 ⌝ }
 {
     let stamp = 700 * (i + 1);
+    let ledger = from.ledger;
+    let pace = from.pace;
     if i % 3 == 2 {
         return senses(ledger, pace, stamp, (i / 3 % 8) as u8);
     }
@@ -191,15 +193,10 @@ fn turn(ledger: Ledger, pace: Pace, i: u32) -> Stood
     }
 }
 
-fn turns() {
-    let mut ledger = stands(0, 8, 0);
-    let mut pace = first();
-    let mut i: u32 = 0;
-    while i < 60 {
-        let stood = turn(ledger, pace, i);
-        ledger = stood.ledger;
-        pace = stood.pace;
-        i += 1;
+fn turns(from: Stood) {
+    let mut stood = from;
+    for i in 0..60u32 {
+        stood = turn(stood, i);
     }
 }
 
@@ -228,5 +225,8 @@ pub fn all() {
     deadlines();
     each_cycle();
     odd_cards();
-    turns();
+    turns(Stood {
+        ledger: stands(0, 8, 0),
+        pace: first(),
+    });
 }

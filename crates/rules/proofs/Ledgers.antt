@@ -40,19 +40,13 @@ module _ (b : Beat) (g : Ledger) where
   number-to t h = omega (arith, counted-by g t)
 
   -- the cycle where it stands changes nothing
-  no-idle : (t : ℕ) → t - suc (g .at) ≡ 0 → failingTo b g t ≡ none
+  pub none-yet : (t : ℕ) → t ≤ suc (g .at) → failingTo b g t ≡ none
   unfolding failingTo firstIdle
-  no-idle t z = rw z (go (stopped (g .level)))
+  none-yet t h = let z : t - suc (g .at) ≡ 0 = omega arith in rw z (go (stopped (g .level)))
     where
       go : (x : Bool) → Path (Option (ℕ × ℕ)) (cond x none none) none
       go true = refl
       go false = refl
-
-  pub none-failing-there : failingTo b g (suc (g .at)) ≡ none
-  none-failing-there = no-idle (suc (g .at)) (omega arith)
-
-  pub none-failing-below : failingTo b g (g .at) ≡ none
-  none-failing-below = no-idle (g .at) (omega arith)
 
   pub as-it-was : g .skipped ≤ g .at → ledgerTo b g (g .at) ≡ g
   unfolding ledgerTo idle
@@ -64,7 +58,7 @@ module _ (b : Beat) (g : Ledger) where
 pub stands-still : (card : Card) (p : Pace) (g : Ledger) → g .skipped ≤ g .at → (moveRefusal card p g (g .at) ≡ unless (ledgerGood card g) 13) × (movedOn card p g (g .at) ≡ g)
 unfolding moveRefusal movedOn firstOf orElse unless named
 stands-still card p g h = (
-  rw (le-leb (g .at) (g .at) (omega arith), none-failing-there (beatOf card p) g) (or-none _),
+  rw (le-leb (g .at) (g .at) (omega arith), none-yet (beatOf card p) g (suc (g .at)) (omega arith)) (or-none _),
   as-it-was (beatOf card p) g h,
 )
 

@@ -3,25 +3,24 @@ use Prim.Native.Nat.{ℕ, zero, suc, _+_, _-_, _*_, _/_, _≤_, _<_, min}
 use mathlib.Core.Path.{_≡_, refl, ap, sym, _∙_}
 use mathlib.Core.Bool.{Bool, true, false, cond, not, _&&_}
 use mathlib.Core.List.{List}
-use mathlib.Core.Logic.{⊎-elim}
 use native.Mathlib.Nat.{le-trans, le-of-lt}
 use native.Mathlib.Omega.{arith}
 use lib.Dec.{ltb}
-use lib.ListN.{length, getD, take, drop, length-take, length-drop, take-append-drop}
-use lib.Seq.{drop-drop, drop-append-le}
+use lib.ListN.{length, getD, take, drop, length-take, length-drop}
+use lib.Seq.{drop-drop}
 use borrow.Author.Tests.{le-leb, ltb-true, eq-eqb, not-true, not-false}
 use Rattle.rules.specs.Commands.{NOP, is}
 use Rattle.rules.specs.Pins.{decode}
 use Rattle.rules.specs.Levels.{awake, depth, sameLevel}
 use Rattle.rules.specs.Entries.{Entry, entry, recordedAs}
 use Rattle.rules.specs.Lent.{numberOf, countedTo, ledgerTo}
-use Rattle.rules.proofs.Tests.{lt-cases, both-true}
+use Rattle.rules.proofs.Tests.{both-true}
 use Rattle.card.specs.declared.Delays.{Delays}
 use Rattle.pins.specs.Values.{levelOf}
 use Rattle.pins.specs.Places.{bankOn, apOn}
 use Rattle.pins.specs.declared.Front.{Front}
 use Rattle.pins.specs.Fronts.{frontOf}
-use Rattle.pins.proofs.Fronts.{no-entry, entry-room, front-append}
+use Rattle.pins.proofs.Fronts.{entry-room, front-take}
 use Rattle.ledger.specs.Values.{ledgerOf, levelIn, codeOf, deadlineOf}
 use Rattle.ledger.proofs.Deadlines.{same-deadline}
 use Rattle.bank.specs.declared.Banks.{Banks}
@@ -45,15 +44,6 @@ count-low Rd = omega arith
 count-low Wr = omega arith
 count-low Pre = omega arith
 count-low Cold = omega arith
-
--- what stands at a place does not hang on the bytes behind its field
-same-front : (v : List ℕ) (size at : ℕ) → (at + 10 ≤ length v → at + 10 ≤ size) → frontOf (drop at (take size v)) ≡ frontOf (drop at v)
-same-front v size at h =
-    ⊎-elim (λ (p : (length v < at + 10) × (ltb (length v) (at + 10) ≡ true)). sym (no-entry (take size v) at (rw length-take (omega arith))) ∙ no-entry v at (p .0))
-    (λ (p : (at + 10 ≤ length v) × (ltb (length v) (at + 10) ≡ false)).
-    sym (front-append (drop at (take size v)) (drop size v) (rw (length-drop, length-take) (omega (arith, h (p .0)))))
-    ∙ rw (← drop-append-le at (take size v) (drop size v) (rw length-take (omega (arith, h (p .0)))), take-append-drop size v))
-    (lt-cases (length v) (at + 10))
 
 -- what the code finds of the entry here
 pub record Saw (d : Delays) (rec : Single) (v : List ℕ) (most : ℕ) (banks : Banks) (bus : Bus) (four : Four) (u used nops size : ℕ)
@@ -107,7 +97,7 @@ module _ {d : Delays} {rec : Single} {v : List ℕ} {most : ℕ} {banks : Banks}
   from-here : (n : ℕ) → left ≡ suc n → quickOf (suc n) d now (drop used v) ≡
       cond ok (goneBehind 10 (counts (entry (f .stamp) (f .pins))) 0 (quickOf n d (singleWith now (entry (f .stamp) (f .pins))) (drop 10 (drop used v)))) (gone now 0 0 0)
   unfolding quickOf
-  from-here n e = rw (← same-front v size used (λ h. omega (arith, g .whole, s .cut)), ← s .front, goes)
+  from-here n e = rw (← front-take v size used (λ h. omega (arith, g .whole, s .cut)), ← s .front, goes)
 
   -- all of them but NOP
   abbrev commands : ℕ

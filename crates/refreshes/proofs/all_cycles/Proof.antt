@@ -1,13 +1,13 @@
-use Prim.Native.Nat.{_≤_, _-_, _^_}
+use Prim.Native.Nat.{_-_, _≤_, _^_}
 use borrow.Author.Needs.{needs}
 use Rattle.refreshes.proofs.all_cycles.Statement.{statement}
 use Rattle.refreshes.proofs.all_cycles.Tie as tie
 
 abbrev Inv-loop : tie.InvT-loop
-Inv-loop ledger₀ to₀ ledger to = to ≤ 2 ^ 33
+Inv-loop asleep ledger₀ to₀ ledger to = (asleep ≤ 100_000) × (to ≤ 2 ^ 33)
 
 abbrev μ-loop : tie.MeasureT-loop
-μ-loop ledger₀ to₀ ledger to = 2 ^ 33 - to
+μ-loop asleep ledger₀ to₀ ledger to = 2 ^ 33 - to
 
 pub all-cycles-spec : {M : Type 1} → statement M
 all-cycles-spec =
@@ -16,12 +16,10 @@ all-cycles-spec =
     Inv-loop
     μ-loop
     (λ c. search needs)
-    (λ c κs. search needs)
-    (λ c κs. search needs)
+    (λ c. search needs)
     (λ c. search needs)
     (λ c κs. search needs)
     (λ c. search needs)
-    (λ c κs. search needs)
     (λ c. search needs)
     (λ c. search needs)
     (λ c. search needs)

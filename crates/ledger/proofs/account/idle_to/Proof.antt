@@ -1,5 +1,5 @@
 -- The code's closed form is the account's.
-use Prim.Native.Nat.{_≤_, _<_}
+use Prim.Native.Nat.{_+_, _-_, _≤_, _<_}
 use mathlib.Core.Path.{subst}
 use native.Mathlib.Omega.{arith}
 use borrow.Author.Needs.{needs}
@@ -22,21 +22,13 @@ sub-t12 c =
     let s = c .before .before .before .before .before .before in
     omega (arith, past-le (beatAs (s .args .beat)) _ _ _ (s .pre .spaced .some) (s .pre .low) (s .pre .later))
 
-cast-t13 : tie.Need-cast-t13
-cast-t13 c =
+-- what is added to the ledger fits, where it stands
+fits : (c : tie.After-fallen2) → let a = c .before .before .before .before .before .before .args in a .owed + (c .before .fallen .result - c .fallen2 .result) ≤ 17
+fits c =
     let b = c .before .before .before .before in
     let f = b .before in
     let a = f .before .pre in
-    let l = rw (b .below .ensures) at (c .before .before .if1 .taken) in
-    omega (arith, within-first _ _ _ _ (a .spaced .some) (a .low) (a .later) _ (f .before .args .through) _ (f .first-failing .ensures) l _ _ (c .before .fallen .ensures) (c .fallen2 .ensures))
-
-add-t14 : tie.Need-add-t14
-add-t14 c =
-    let b = c .before .before .before .before in
-    let f = b .before in
-    let a = f .before .pre in
-    let l = rw (b .below .ensures) at (c .before .before .if1 .taken) in
-    omega (arith, within-first _ _ _ _ (a .spaced .some) (a .low) (a .later) _ (f .before .args .through) _ (f .first-failing .ensures) l _ _ (c .before .fallen .ensures) (c .fallen2 .ensures))
+    within-first _ _ _ _ (a .spaced .some) (a .low) (a .later) _ (f .before .args .through) _ (f .first-failing .ensures) (rw (b .until .ensures) at (c .before .before .if1 .taken)) _ _ (c .before .fallen .ensures) (c .fallen2 .ensures)
 
 returns : tie.Need-returns
 unfolding idleOf beatAs
@@ -44,7 +36,7 @@ returns c =
     let b = c .before .before .before .before in
     let f = b .before in
     let a = f .before .pre in
-    let l = rw (b .below .ensures) at (c .before .before .if1 .taken) in
+    let l = rw (b .until .ensures) at (c .before .before .if1 .taken) in
     record {
       is = stands-as _ _ _ _ (a .spaced .some) (a .low) (a .later) _ (f .before .args .through) _ (f .first-failing .ensures) l _ _ (c .before .fallen .ensures) (c .fallen2 .ensures);
       passed = λ q m e. absurd (not-breaks e);
@@ -56,7 +48,7 @@ returns-2 c =
     let b = c .before .before in
     let f = b .before in
     let a = f .before .pre in
-    let l = rw (b .below .ensures) at (c .if1 .left) in
+    let l = rw (b .until .ensures) at (c .if1 .left) in
     record {
       is = breaks-as _ _ _ _ (a .spaced .some) (a .low) (a .later) _ (f .before .args .through) _ (f .first-failing .ensures) l;
       passed =
@@ -74,7 +66,7 @@ idle-to-spec =
     fallen-requires
     fallen-requires-2
     sub-t12
-    cast-t13
-    add-t14
+    (λ c. omega (arith, fits c))
+    (λ c. omega (arith, fits c))
     returns
     returns-2)

@@ -63,7 +63,7 @@ loop-again c =
     let w = l .inv in
     let x = c .before .before .put-entry .ensures in
     let ten : 10 * l .i + 10 - 10 * l .i ≡ 10 = omega arith in
-    let more = lines-next (a .sleeps) (a .paired) (l .i) (standing _ (a .counter) (a .second)) (a .bytes .now) (f .entry-at .result) (rw ten at (f .entry-at .ensures)) (omega arith) (w .0) (w .1) x in
+    let more = lines-next (a .sleeps) (a .paired) (l .i) (standing _ (a .counter) (a .second)) (a .bytes .now) (f .entry-at .result) (rw ten at (f .entry-at .ensures)) (w .0) (w .1) x in
     (more .0, more .1, omega arith, omega (arith, x .small, w .3), x .lead, omega (arith, w .5), x .high)
 
 same-length : tie.Need-same-length Inv-loop μ-loop

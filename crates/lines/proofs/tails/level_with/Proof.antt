@@ -1,5 +1,4 @@
 -- One number after the other.
-use borrow.Author.Needs.{needs}
 use borrow.Author.Tests.{eq-eqb, ne-eqb}
 use Rattle.pins.specs.Values.{levelOf}
 use Rattle.lines.specs.Quick.{levelWith}
