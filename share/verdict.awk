@@ -233,10 +233,10 @@ function in_clocks(term,    name, part, n, i, text, duration, floor, period, clo
     }
     split(value["period"], part, " ")
     period = part[2]
-    if (term ~ /^i/)
-        clocks = int(duration / period)
-    else {
-        clocks = int((duration + period - 1) / period)
+    clocks = int(duration / period)
+    if (term !~ /^i/) {
+        if (duration % period > 0)
+            clocks++
         if (clocks < floor)
             clocks = floor
     }

@@ -10,15 +10,19 @@ pub struct Timing {
     pub floor: Clocks,
 }
 
-// 0 where the period is 0.
+// The quotient, and one more if anything is left over; 0 where the period is 0.
 pub fn rounded_up(d: Picoseconds, period: Picoseconds) -> Clocks
-    requires { ⌜ d .0 + period .0 < 2 ^ 64 ⌝ }
     ensures { λ r. ⌜ r .0 ≡ roundedUp (d .0) (period .0) ⌝ }
 {
     if period.0 == 0 {
         return Clocks(0);
     }
-    Clocks((d.0 + (period.0 - 1)) / period.0)
+    let quotient = d.0 / period.0;
+    let left_over = d.0 % period.0;
+    if left_over > 0 {
+        return Clocks(quotient + 1);
+    }
+    Clocks(quotient)
 }
 
 // The whole periods within a duration: one fewer than a picosecond more needs. 0 where the period is 0.
