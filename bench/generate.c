@@ -1,11 +1,13 @@
 /* Writes traces to standard output, the same for the same seed.
      generate KIND SEED [COUNT]   one trace; KIND is legal, sleeping (legal, with moves of clock-enable), paired (legal,
-                                  of two parts), heated (legal, with fields of tag 34), perturbed, hostile or far; about
-                                  COUNT entries (far goes past 200,000 refreshes to the last of the 32-bit cycles); a
-                                  seed divisible by four takes the bench card
-     generate --many N SEED       N traces of mixed kinds, a third of them with sleeps, a third of two parts, a
-                                  third, whatever else they have, with fields of tag 34, and every cut of some, each
-                                  behind its length (4 bytes, big-endian)
+                                  of two parts), heated (legal, with fields of tag 34), programmed (legal, with tag 23
+                                  and writes of MR1), perturbed, hostile or far; about COUNT entries (far goes past
+                                  200,000 refreshes to the last of the 32-bit cycles); a seed divisible by four takes
+                                  the bench card
+     generate --many N SEED       N traces of mixed kinds, a third of them with sleeps, a third of two parts; a third,
+                                  whatever else they have, with fields of tag 34, and a third with tag 23 or writes of
+                                  MR1 that are listed; and every cut of some, each behind its length (4 bytes,
+                                  big-endian)
      generate --pick K            the K-th trace (from 1) of such a stream on standard input */
 #include "traces/faults.h"
 
@@ -57,6 +59,8 @@ static struct form some_form(void)
     struct form form = {.sleeps = which == 1, .two = which == 2};
     form.warms = one_in(2); /* where a trace is too short none is laid: with the cuts a third of all have fields */
     form.heats = one_in(form.warms ? 2 : 20);
+    form.programs = below(5) < 2; /* likewise */
+    form.presets = form.programs && !one_in(3);
     return form;
 }
 
@@ -106,7 +110,7 @@ static int pick(uint64_t k)
 
 static int usage(void)
 {
-    fprintf(stderr, "usage: generate legal|sleeping|paired|heated|perturbed|hostile|far SEED [COUNT]\n"
+    fprintf(stderr, "usage: generate legal|sleeping|paired|heated|programmed|perturbed|hostile|far SEED [COUNT]\n"
                     "       generate --many N SEED\n"
                     "       generate --pick K\n");
     return 2;
@@ -124,10 +128,10 @@ int main(int argc, char **argv)
     else if (!strcmp(kind, "--pick") && argc == 3)
         status = pick(a);
     else if (!strcmp(kind, "legal") || !strcmp(kind, "sleeping") || !strcmp(kind, "paired") ||
-             !strcmp(kind, "heated") || !strcmp(kind, "perturbed") || !strcmp(kind, "hostile") ||
-             !strcmp(kind, "far")) {
-        bool heated = !strcmp(kind, "heated");
-        struct form form = {!strcmp(kind, "sleeping"), !strcmp(kind, "paired"), heated, heated};
+             !strcmp(kind, "heated") || !strcmp(kind, "programmed") || !strcmp(kind, "perturbed") ||
+             !strcmp(kind, "hostile") || !strcmp(kind, "far")) {
+        bool heated = !strcmp(kind, "heated"), programmed = !strcmp(kind, "programmed");
+        struct form form = {!strcmp(kind, "sleeping"), !strcmp(kind, "paired"), heated, heated, programmed, programmed};
         make(kind, form, a, b);
         write_bytes(bytes.p, bytes.n);
     } else

@@ -220,6 +220,10 @@ static bool read_value(struct card *c, unsigned tag, const uint8_t *p)
     case 4:
         c->refi = big(p, 4);
         return c->refi >= c->period && c->refi <= 20000000;
+    case 23:
+        c->presets = true;
+        c->mr1 = *p;
+        return mr1_permitted(c->mr1);
     case 25:
         c->two = true;
         c->gap = *p;
@@ -242,7 +246,7 @@ static unsigned next_tag(unsigned tag)
     unsigned found = have(1) ? in.buf[in.at] : 0;
     if (tag < 18 || (tag > 18 && tag < 22) || (tag == 18 && found == 19))
         return tag + 1;
-    return tag < found && (found == 25 || found == 26) ? found : 0;
+    return tag < found && (found == 23 || found == 25 || found == 26) ? found : 0;
 }
 
 static bool read_card(struct card *c)
@@ -250,7 +254,7 @@ static bool read_card(struct card *c)
     static const uint8_t lengths[] = {4, 1, 2, 4};
     memset(c, 0, sizeof *c);
     for (unsigned tag = 1; tag; tag = next_tag(tag)) {
-        unsigned length = tag <= 4 ? lengths[tag - 1] : tag == 25 ? 1 : tag == 26 ? 4 : 5;
+        unsigned length = tag <= 4 ? lengths[tag - 1] : tag == 23 || tag == 25 ? 1 : tag == 26 ? 4 : 5;
         bool fits = have(1) && in.buf[in.at] == tag;
         unsigned number = head(fits, length);
         if (!number && !read_value(c, tag, in.buf + in.at + 3))

@@ -38,8 +38,10 @@ enum level { AWAKE, POWER_DOWN, SELF_REFRESH, DEEP };
 struct card {
     uint32_t period, refi, r;
     uint8_t mr2;
-    bool sleeps; /* tags 19 to 22 are there */
-    bool two;    /* tag 25 is there */
+    bool sleeps;  /* tags 19 to 22 are there */
+    bool presets; /* tag 23 is there */
+    uint8_t mr1;
+    bool two; /* tag 25 is there */
     uint8_t gap;
     bool heats;    /* tag 26 is there */
     uint32_t heat; /* 0 where it is not */
@@ -69,6 +71,13 @@ static inline const struct latency *latency_of(uint8_t mr2, uint32_t period)
             return &latencies[i];
     return 0;
 }
+
+/* nWR by MR2 OP4 and MR1 OP7-5; 0: not listed. */
+static const uint8_t nwrs[2][8] = {{0, 3, 0, 0, 6, 0, 8, 9}, {10, 11, 12, 0, 14, 0, 16, 0}};
+
+#define UNLISTED 0x63 /* an MR1 value that is listed with neither OP4, and so counts as none does */
+
+static inline bool mr1_permitted(unsigned mr1) { return (mr1 & 7) == 3; }
 
 static inline enum kind decode(uint32_t pins)
 {
@@ -145,7 +154,9 @@ struct record {
     int64_t cke, xp, ckesr, xsr;
     struct warm warm;
     int64_t faw, rfcab, rfcpb, mrr, mrw;
+    uint8_t mr1, mr2;
     int64_t turn[2], to_pre[2]; /* read to write, write to read; to PRE; under the MR2 in force */
+    int64_t to_own[2];          /* with AP, to the precharge it brings; under the MR1 and MR2 in force */
     uint64_t commands, refreshes;
     int64_t interval;
     int64_t origin; /* dues fall whole intervals after it; it moves on by the cycles that are not counted */
@@ -190,14 +201,17 @@ static inline int64_t interval_of(const struct card *c, unsigned mr4)
     return n > 1 ? n : 1;
 }
 
-static inline void set_mr2(struct record *r, uint8_t mr2)
+static inline void set_modes(struct record *r, uint8_t mr1, uint8_t mr2)
 {
     const struct card *c = &r->card;
     const struct latency *l = latency_of(mr2, c->period);
-    unsigned wl = l->wl[mr2 >> 6 & 1];
+    unsigned wl = l->wl[mr2 >> 6 & 1], nwr = nwrs[mr2 >> 4 & 1][mr1 >> 5];
+    r->mr1 = mr1;
+    r->mr2 = mr2;
     r->turn[0] = l->rl + clocks(c, c->ps[tDQSCK], c->floor[tDQSCK]) + 5 - wl;
     r->turn[1] = wl + 5 + clocks(c, c->ps[tWTR], c->floor[tWTR]);
     r->to_pre[1] = wl + 5 + clocks(c, c->ps[tWR], c->floor[tWR]);
+    r->to_own[1] = nwr ? wl + 5 + nwr : r->to_pre[1];
 }
 
 INLINE bool uncounted(enum level l) { return l == SELF_REFRESH || l == DEEP; }
@@ -243,11 +257,11 @@ static inline void begin(struct record *r, const struct card *c)
     r->faw = n[tFAW], r->rfcab = n[tRFCab], r->rfcpb = n[tRFCpb], r->mrr = n[tMRR], r->mrw = n[tMRW];
     r->cke = n[tCKE], r->xp = n[tXP], r->ckesr = n[tCKESR], r->xsr = n[tXSR];
     r->steady = 1;
-    r->to_pre[0] = n[tRTP] > 4 ? n[tRTP] : 4;
+    r->to_pre[0] = r->to_own[0] = n[tRTP] > 4 ? n[tRTP] : 4;
     r->interval = c->refi / c->period;
     r->fail = 9 * r->interval;
     r->fail_rule = 19;
-    set_mr2(r, c->mr2);
+    set_modes(r, c->presets ? c->mr1 : UNLISTED, c->mr2);
 }
 
 #define ASK(rule, cycle)      \
@@ -441,7 +455,7 @@ INLINE void note(struct record *r, enum kind k, unsigned bank, uint32_t pins, in
         r->r12[w] = t + 4;
         r->r14_13[1 - w] = t + r->turn[w];
         b->r15_17[w] = t + r->to_pre[w];
-        b->r16_18[ap ? w : 2] = t + r->to_pre[w] + r->warm.rppb;
+        b->r16_18[ap ? w : 2] = t + r->to_own[w] + r->warm.rppb;
         r->open &= ~(ap << bank);
         break;
     case PRE:
@@ -473,8 +487,10 @@ INLINE void note(struct record *r, enum kind k, unsigned bank, uint32_t pins, in
     case MRW:
         r->r1 = t + r->mrw;
         raise_to(&r->gate, r->r1);
+        if (ma_bits(pins) == 1)
+            set_modes(r, (uint8_t)op_bits(pins), r->mr2);
         if (ma_bits(pins) == 2)
-            set_mr2(r, op_bits(pins));
+            set_modes(r, r->mr1, (uint8_t)op_bits(pins));
         break;
     case MRR:
         r->r2 = t + r->mrr;
@@ -601,7 +617,7 @@ INLINE bool step_kind(struct record *part, bool two, unsigned p, enum kind k, un
         *no = (struct refusal){8, 0, 0};
         return false;
     }
-    if (k == MRW && ((ma == 1 && (op & 7) != 3) || (ma == 2 && !latency_of((uint8_t)op, r->card.period)))) {
+    if (k == MRW && ((ma == 1 && !mr1_permitted(op)) || (ma == 2 && !latency_of((uint8_t)op, r->card.period)))) {
         *no = (struct refusal){9, 0, 0};
         return false;
     }

@@ -3,7 +3,9 @@
 
 # The account fails at the cycle, before the field at the offset or at it; b has that field.
 function explain_account(offset, rule, cycle, b,    part) {
-    walk(offset)
+    interval = next_due = interval_by(4)
+    level = card_mode
+    walk(offset, "account")
     fall_due(counted(cycle))
     if (heats > 0) {
         print "heat   " interval ": " says["heat interval"] " " heat_text() ", " RATE[heat_op % 8]
@@ -16,19 +18,6 @@ function explain_account(offset, rule, cycle, b,    part) {
         print "gap    " sprintf("%.0f: ", done[part] > since ? done_stamp[part] : heat_stamp) says["gap " (done[part] > since ? "refresh" : "MR4")]
     if (card_mode == "two")
         print "part   " part ": " says["part account" (fails(0, cycle) && fails(1, cycle) ? "s" : "")]
-}
-
-# Takes every field from the card to the offset.
-function walk(offset,    at, b, n, k) {
-    interval = next_due = interval_by(4)
-    level = card_mode
-    for (at = size; at < offset; at += k) {
-        n = read_bytes(at, offset - at < 100000 ? offset - at : 100000, b)
-        for (k = 0; n - k >= 3 + SIZE[ENTRY] || n - k > 0 && at + n == offset; k += 3 + SIZE[b[k + 1]])
-            take_field(b, k)
-        if (k == 0)
-            return
-    }
 }
 
 # The field behind the first k bytes of b. Without sleeps an entry that has not the lowest pins of REFAB or REFPB is passed over at once.

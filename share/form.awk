@@ -1,13 +1,14 @@
 # The form of a trace: the card's fields by tag, commands and moves of clock-enable on the pins, a field as text. Document 01, "The file" and "Commands on the
-# pins"; document 02, One, Nine and Eleven.
+# pins"; document 02, One, Two, Nine and Eleven.
 # Numbers of 32 bits are printed by %.0f: %d stops at 2^31 - 1 in some awks.
 
 BEGIN {
     group(1, "period mr2 groups trefi trcd trppb trpab tras trrd tfaw trtp twr twtr tdqsck trfcab trfcpb tmrr tmrw")
     group(19, "tcke txp tckesr txsr")
+    group(23, "mr1")
     group(25, "gap")
     group(26, "raise")
-    SIZE[1] = 4; SIZE[2] = 1; SIZE[3] = 2; SIZE[4] = 4; SIZE[25] = 1; SIZE[26] = 4
+    SIZE[1] = 4; SIZE[2] = 1; SIZE[3] = 2; SIZE[4] = 4; SIZE[23] = SIZE[25] = 1; SIZE[26] = 4
     ENTRY = 32; SIZE[ENTRY] = 7
     LAST = 33; SIZE[LAST] = 4
     HEAT = 34; SIZE[HEAT] = 5
@@ -74,7 +75,7 @@ function may_follow(last, tag) {
 # How pins are read behind a card that ends with this tag, where without it they were read as `mode`: of "one" part that never sleeps; of one that may, by
 # clock-enable before the entry, "high" or "low"; of "two" parts.
 function mode_behind(tag, mode) {
-    return tag >= TAG["raise"] ? mode : tag >= TAG["gap"] ? "two" : tag >= TAG["tcke"] ? "high" : "one"
+    return GROUP[tag] == 1 ? "one" : GROUP[tag] == TAG["tcke"] ? "high" : tag == TAG["gap"] ? "two" : mode
 }
 
 # How they are read behind an entry with these pins.
@@ -235,8 +236,8 @@ function field_text(b, mode,    tag) {
         return sprintf("%.0f MR4 0x%02x  # %s", number_at(b, 4, 4), b[8], rate_text(b[8] % 8))
     if (tag == LAST)
         return sprintf("end %.0f", number_at(b, 4, 4))
-    if (NAME[tag] == "mr2")
-        return sprintf("mr2 0x%02x", b[4])
+    if (NAME[tag] ~ /^mr/)
+        return sprintf("%s 0x%02x", NAME[tag], b[4])
     if (SIZE[tag] == 5)
         return sprintf("%s %.0f %d", NAME[tag], number_at(b, 4, 4), b[8])
     return sprintf("%s %.0f", NAME[tag], number_at(b, 4, SIZE[tag]))

@@ -1,10 +1,9 @@
 # Two parts on one bus, behind verdict.awk: which entry of the other part a refused one waits for.
 
 # The entry at the offset, with pins p, is refused by rule 25, 26 or 27: what its cycle is counted from.
-function explain_wait(rule, offset, cycle, p,    at, b) {
+function explain_wait(rule, offset, cycle, p,    at) {
     at = source_of(rule, offset, p)
-    read_bytes(at, 3 + SIZE[ENTRY], b)
-    print "waits  " (cycle - number_at(b, 4, 4)) " cycles from " entry_number(entries + 1 - passed) sprintf(", at byte %.0f: ", at) field_text(b, "two")
+    print_wait(cycle, at, entries + 1 - passed)
 }
 
 # The offset of the other part's latest entry that the rule names; `passed`: how many entries before the refused one it is. No delay of theirs comes to 1400 cycles

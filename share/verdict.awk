@@ -78,8 +78,8 @@ function explain_refusal(number, rule, offset, cycle,    b, n, mode, due) {
         print "cycle  " cycle ": " says["cycle " number]
 }
 
-# Takes the card's fields before the offset: `size` bytes of them, the last one with tag `last`, their text in value, and how pins are read behind them. Behind the
-# card, and before the offset, stand as many entries as there are lines, and `heats` temperature fields.
+# Takes the card's fields before the offset: `size` bytes of them, the last one with tag `last`, their text in value, the first byte of each value in byte, and how
+# pins are read behind them. Behind the card, and before the offset, stand as many entries as there are lines, and `heats` temperature fields.
 function read_card(offset,    b, field, k) {
     read_bytes(0, 8 * TOP, b)
     size = last = 0
@@ -89,6 +89,7 @@ function read_card(offset,    b, field, k) {
         for (k = 1; k <= 3 + SIZE[last]; k++)
             field[k] = b[size + k]
         value[NAME[last]] = field_text(field)
+        byte[NAME[last]] = field[4]
         size += 3 + SIZE[last]
         card_mode = mode_behind(last, card_mode)
     }
@@ -163,8 +164,30 @@ function explain_entry(number, rule, offset, cycle, p, mode,    name) {
         print "entry  " name ": " says["entry " name]
     if (mode == "two" && number != 6 && number != 11 && part_on(p) != "")
         print "part   " part_on(p) ": " says["part entry"]
+    if (number == 10 && rule == 18)
+        explain_recovery(offset, cycle, p)
     if (number == 10 && rule >= 25)
         explain_wait(rule, offset, cycle, p)
+}
+
+# The entry that a cycle is counted from: where it begins, and its number.
+function print_wait(cycle, offset, k,    b) {
+    read_bytes(offset, 3 + SIZE[ENTRY], b)
+    print "waits  " (cycle - number_at(b, 4, 4)) " cycles from " entry_number(k) sprintf(", at byte %.0f: ", offset) field_text(b, card_mode)
+}
+
+# Takes every field from the card to the offset, for the account or for the writes with AP.
+function walk(offset, task,    at, b, n, k) {
+    for (at = size; at < offset; at += k) {
+        n = read_bytes(at, offset - at < 100000 ? offset - at : 100000, b)
+        for (k = 0; n - k >= 3 + SIZE[ENTRY] || n - k > 0 && at + n == offset; k += 3 + SIZE[b[k + 1]])
+            if (task == "account")
+                take_field(b, k)
+            else
+                note_field(b, k, at)
+        if (k == 0)
+            return
+    }
 }
 
 # What begins at the offset: a card field with tag `due`, or what comes behind the card.
@@ -188,12 +211,10 @@ function standing(b, n, mode) {
     return n == 0 ? "the file ends" : is_field(b, n) ? field_text(b, mode) : raw_text(b, n)
 }
 
-# The rule, and what the terms n(..) and i(..) in it come to on this card, and the gap. Where code 110 is in force, timings are raised.
+# The rule, and what the terms n(..) and i(..) in it come to on this card, and the gap.
 function explain_rule(number, offset,    rest, text, hot) {
-    rest = says["rule " number]
-    hot = heats > 0 && in_ps("raise") > 0 && raised(rest) != rest && code_before(offset) == HOT
-    if (hot)
-        rest = raised(rest)
+    rest = in_force(says["rule " number], offset)
+    hot = rest != says["rule " number]
     print "rule   " number ": " rest
     while (match(rest, /[ni]\([a-z +]*\)/)) {
         text = text "; " in_clocks(substr(rest, RSTART, RLENGTH))
@@ -209,6 +230,11 @@ function explain_rule(number, offset,    rest, text, hot) {
         print "heat   " heat_text() ": " says["heat raised"]
 }
 
+# A rule as it is for an entry at the offset: where code 110 is in force, timings are raised.
+function in_force(rule, offset) {
+    return heats > 0 && in_ps("raise") > 0 && raised(rule) != rule && code_before(offset) == HOT ? raised(rule) : rule
+}
+
 # A rule with raise added to the timings that code 110 raises.
 function raised(rule,    name, n, i) {
     n = split(RAISED, name, " ")
@@ -222,23 +248,27 @@ function in_ps(name,    word) {
     return word[2] + 0
 }
 
-# A term with the card's values that enter it; of a sum, durations and floors are added.
-function in_clocks(term,    name, part, n, i, text, duration, floor, period, clocks) {
+# A term with the card's values that enter it.
+function in_clocks(term,    name, n, i, text) {
+    n = split(substr(term, 3, length(term) - 3), name, / \+ /)
+    for (i = 1; i <= n; i++)
+        text = text value[name[i]] "; "
+    return text term " = " clocks(term)
+}
+
+# What a term comes to; of a sum, durations and floors are added.
+function clocks(term,    name, part, n, i, duration, floor, period, count) {
     n = split(substr(term, 3, length(term) - 3), name, / \+ /)
     for (i = 1; i <= n; i++) {
         split(value[name[i]], part, " ")
         duration += part[2]
         floor += part[3]
-        text = text value[name[i]] "; "
     }
-    split(value["period"], part, " ")
-    period = part[2]
-    clocks = int(duration / period)
-    if (term !~ /^i/) {
-        if (duration % period > 0)
-            clocks++
-        if (clocks < floor)
-            clocks = floor
-    }
-    return text term " = " clocks
+    period = in_ps("period")
+    count = int(duration / period)
+    if (term ~ /^i/)
+        return count
+    if (duration % period > 0)
+        count++
+    return count < floor ? floor : count
 }

@@ -10,6 +10,14 @@ static uint32_t near(uint32_t v)
     return one_in(2) ? (v >= by ? v - (uint32_t)by : 0) : v + (uint32_t)by;
 }
 
+static void perturb_tag_23(struct card *c)
+{
+    if (one_in(4))
+        c->presets = !c->presets;
+    else
+        c->mr1 = (uint8_t)(c->mr1 ^ 1u << (one_in(3) ? below(5) : between(5, 7)));
+}
+
 static void perturb_tag_25(struct card *c)
 {
     if (one_in(2))
@@ -39,7 +47,7 @@ static void perturb_card(struct card *c)
     static const uint32_t rs[] = {0, 1, 16384, 16385, 65535};
     static const uint8_t floors[] = {0, 1, 254, 255};
     unsigned i = (unsigned)below(timings(c));
-    switch (below(10)) {
+    switch (below(11)) {
     case 0:
         c->period = one_in(2) ? PICK(periods) : near(c->period);
         break;
@@ -66,6 +74,9 @@ static void perturb_card(struct card *c)
         break;
     case 7:
         perturb_tag_26(c);
+        break;
+    case 8:
+        perturb_tag_23(c);
         break;
     default:
         c->ps[i] = beside(c->ps[i], c->period);

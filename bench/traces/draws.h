@@ -33,10 +33,13 @@ static const struct card bench_card = {
 static const uint32_t sleep_ps[] = {7500, 10000, 15000, 140000};
 static const uint8_t sleep_floors[] = {3, 3, 3, 2};
 
-/* What a trace has beyond document 01: tags 19 to 22, tag 25, fields of tag 34, tag 26. */
+/* What a trace has beyond document 01: tags 19 to 22, tag 25, fields of tag 34, tag 26, writes of MR1 that may be
+   listed, tag 23. */
 struct form {
-    bool sleeps, two, warms, heats;
+    bool sleeps, two, warms, heats, programs, presets;
 };
+
+static uint8_t random_mr1(void) { return (uint8_t)((draw() & 0xF8) | 3); }
 
 static void add_form(struct card *c, struct form form)
 {
@@ -45,6 +48,8 @@ static void add_form(struct card *c, struct form form)
     c->gap = c->two ? 2 : 0;
     c->heats = form.heats;
     c->heat = c->heats ? 1875 : 0;
+    c->presets = form.presets;
+    c->mr1 = c->presets ? random_mr1() : 0;
     if (c->sleeps) {
         memcpy(c->ps + tCKE, sleep_ps, sizeof sleep_ps);
         memcpy(c->floor + tCKE, sleep_floors, sizeof sleep_floors);
@@ -123,6 +128,11 @@ static void random_card(struct card *c, struct form form)
         c->ps[tFAW] = four > 1000000 ? 1000000 : (uint32_t)four;
     if (heat)
         c->heat = random_heat(c->period);
+    if (form.programs && one_in(2)) {
+        /* the registers are written while a write counts */
+        c->ps[tMRW] = 0;
+        c->floor[tMRW] = (uint8_t)below(4);
+    }
     if (form.warms && one_in(6))
         hurry(c);
 }
@@ -157,11 +167,12 @@ static uint32_t encode(enum kind k, unsigned bank, unsigned ma, unsigned op)
 static uint32_t random_pins(enum kind k, unsigned bank, uint32_t period)
 {
     static const uint8_t listed[] = {1, 2, 2, 2, 2, 3, 11, 16, 17};
+    static const uint8_t programming[] = {1, 1, 1, 1, 2, 2, 2, 3, 11, 16, 17};
     unsigned ma = (unsigned)below(256), op = (unsigned)below(256);
     if (k == MRW) {
-        ma = PICK(listed);
+        ma = trace.programs ? PICK(programming) : PICK(listed);
         if (ma == 1)
-            op = (op & ~7u) | 3;
+            op = trace.programs ? (op & ~7u) | 3 : (op & 0x18) | UNLISTED;
         if (ma == 2)
             op = random_mr2(period);
     }

@@ -4,7 +4,11 @@
 
 #include "perturbs.h"
 
-static size_t card_fields(void) { return 4 + timings(&trace.card) + trace.card.two + trace.card.heats; }
+static size_t card_fields(void)
+{
+    const struct card *c = &trace.card;
+    return 4 + timings(c) + c->presets + c->two + c->heats;
+}
 
 /* Where the k-th field of the still well-formed trace begins. */
 static size_t place(size_t k)
@@ -100,11 +104,25 @@ static void insert_optional(size_t own, const uint8_t *p, size_t n)
         insert_bytes(at, p, n);
 }
 
-/* Where tag 25 and tag 26 are or would be. */
-static size_t gap_place(void) { return CARD + (trace.card.sleeps ? 4 * TIMING : 0); }
+/* Where tags 23, 25 and 26 are or would be. */
+static size_t mode_place(void) { return CARD + (trace.card.sleeps ? 4 * TIMING : 0); }
+static size_t gap_place(void) { return mode_place() + (trace.card.presets ? 4 : 0); }
 static size_t heat_place(void) { return gap_place() + (trace.card.two ? 4 : 0); }
 
-/* Something wrong about tag 25, in a file that is well-formed but for such things. */
+/* Something wrong about tag 23, in a file that is well-formed but for such things. */
+static void spoil_mode(void)
+{
+    size_t at = mode_place();
+    uint8_t mr1 = one_in(2) ? random_mr1() : (uint8_t)below(256);
+    if (!trace.card.presets || one_in(3) || bytes.n < at + 4)
+        insert_optional(at, (uint8_t[]){23, 0, 1, mr1}, 4);
+    else if (one_in(3))
+        bytes.p[at + 3] = mr1;
+    else
+        spoil_one(at, 4);
+}
+
+/* Likewise about tag 25. */
 static void spoil_gap(void)
 {
     size_t at = gap_place();
@@ -229,6 +247,8 @@ static void spoil(void)
         return;
     if (trace.card.sleeps && one_in(3))
         spoil_tags();
+    else if (one_in(trace.card.presets ? 3 : 8))
+        spoil_mode();
     else if (one_in(trace.card.two ? 3 : 8))
         spoil_gap();
     else if (one_in(trace.card.heats ? 3 : 8))

@@ -4,6 +4,7 @@
 
 #include "crossings.h"
 #include "fields.h"
+#include "modes.h"
 #include "moves.h"
 
 static void perturb_stamp(size_t i)
@@ -99,7 +100,9 @@ static void perturb_any(void)
 
 static void perturb(void)
 {
-    if (trace.warms && one_in(2))
+    if (trace.programs && one_in(3))
+        perturb_modes();
+    else if (trace.warms && one_in(2))
         perturb_fields();
     else if (trace.card.sleeps && one_in(2))
         perturb_move();

@@ -27,7 +27,8 @@ struct entry {
 
 static struct {
     struct card card;
-    bool warms; /* fields of tag 34 come */
+    bool warms;    /* fields of tag 34 come */
+    bool programs; /* writes of MR1 come that may be listed */
     struct entry *e;
     size_t n, room;
     uint32_t last;
@@ -109,6 +110,8 @@ static void serialize(void)
     put_field(4, 4, c->refi);
     for (unsigned i = 0; i < timings(c); i++)
         put_field(5 + i, 5, (uint64_t)c->ps[i] << 8 | c->floor[i]);
+    if (c->presets)
+        put_field(23, 1, c->mr1);
     if (c->two)
         put_field(25, 1, c->gap);
     if (c->heats)

@@ -65,6 +65,15 @@ static const struct deck {
     [BUS] = {bus, sizeof bus, false},
 };
 
+static const struct deck registers = {(const uint8_t[]){MRW}, 1, false};
+
+static const struct deck *some_deck(enum style style)
+{
+    if (trace.programs && one_in(style == FULL ? 100 : 8))
+        return &registers;
+    return decks + (style == FULL && one_in(200) ? ALL : style);
+}
+
 /* A command to a part, and when. */
 struct command {
     unsigned p;
@@ -123,8 +132,7 @@ static bool some_sleeps(struct record *r, bool stays)
 /* One more entry, or a few. False: nothing can follow. */
 static bool lay_more(struct record *part, enum style style, int64_t jump, enum kind *wanted)
 {
-    const struct deck *d = decks + (style == FULL && one_in(200) ? ALL : style);
-    struct command c = next_command(part, d, wanted);
+    struct command c = next_command(part, some_deck(style), wanted);
     if (one_in(style == FULL ? 64 : 8))
         c.t += one_in(4) ? below(40) : between(1, 3);
     if (jump && one_in(16))
@@ -170,16 +178,18 @@ static void begin_all(struct form form)
 {
     trace.n = 0;
     trace.warms = form.warms;
+    trace.programs = form.programs;
     begin(&part[0], &trace.card);
     begin(&part[1], &trace.card);
 }
 
-/* One part's MR2 is no longer the card's. */
-static void part_modes(void)
+/* MR1 or MR2 of this part is written, once its banks are closed. */
+static void lay_mode(unsigned p, unsigned ma)
 {
-    unsigned p = (unsigned)below(2);
-    uint8_t mr2 = random_mr2(trace.card.period);
-    lay_pins(part, p, MRW, 0, first_own(part + p, MRW, 0), encode(MRW, 0, 2, mr2));
+    if (part[p].open && !lay_first(part, p, PREA))
+        return;
+    uint8_t op = ma == 1 ? random_mr1() : random_mr2(part->card.period);
+    lay_pins(part, p, MRW, 0, first_own(part + p, MRW, 0), encode(MRW, 0, ma, op));
 }
 
 /* Refreshes of this part, so many, the last at t. */
@@ -217,7 +227,9 @@ static void legal(bool bench, struct form form, size_t count)
         random_card(&trace.card, form);
     begin_all(form);
     if (form.two && one_in(2))
-        part_modes();
+        lay_mode((unsigned)below(2), 2);
+    if (form.programs && one_in(2))
+        lay_mode(some_part(part), 1);
     if (form.two && one_in(6))
         lay_some_refreshes();
     if (form.two && count <= 1000 && one_in(8))

@@ -1,7 +1,7 @@
 """Writes the files of data/, the arguments, and stdout: what the program must print of them. Run it in this folder.
 
-Each file stands for a point of document 01, or of requests One, Nine and Eleven of document 02. Where a refusal is expected it is written here by hand, from the document; paper.py works out the rest, and must
-come to the same refusal. The last files are those of examples/, whose README has their verdicts."""
+Each file stands for a point of document 01, or of requests One, Two, Nine and Eleven of document 02. Where a refusal is expected it is written here by hand, from
+the document; paper.py works out the rest, and must come to the same refusal. The last files are those of examples/, whose README has their verdicts."""
 import os
 import re
 import shutil
@@ -31,8 +31,8 @@ def card_fields(**changed):
     c = {**BENCH, **changed}
     out = [field(1, num(c["period"], 4)), field(2, num(c["mr2"], 1)), field(3, num(c["R"], 2)), field(4, num(c["tREFI"], 4))]
     out += [field(5 + k, num(c[name][0], 4) + num(c[name][1], 1)) for k, name in enumerate(paper.TIMINGS + paper.SLEEPS) if name in c]
-    out += [field(25, num(c["gap"], 1))] if "gap" in c else []
-    return out + ([field(26, num(c["hot"], 4))] if "hot" in c else [])
+    out += [field(tag, num(c[name], size)) for tag, name, size in ((23, "mr1", 1), (25, "gap", 1), (26, "hot", 4)) if name in c]
+    return out
 
 
 def card(**changed):
@@ -469,11 +469,11 @@ def sleep_tag_cases():
         case("1-ends-before-%d" % tag, bench + b"".join(sleeps[:k]), "refused 1 0 %d 0" % (135 + 8 * k))
         case("3-%d" % tag, bench + b"".join(sleeps[:k]) + bytes([tag, 0, 4]) + num(0, 4), "refused 3 0 %d 0" % (135 + 8 * k))
         case("4-%d" % tag, card(**sleeper(**{paper.SLEEPS[k]: (1000001, 0)})) + more, "refused 4 0 %d 0" % (135 + 8 * k))
-        case("2-23-in-place-of-%d" % tag, bench + b"".join(sleeps[:k]) + bytes([23]), "refused 2 0 %d 0" % (135 + 8 * k))
+        case("2-24-in-place-of-%d" % tag, bench + b"".join(sleeps[:k]) + bytes([24]), "refused 2 0 %d 0" % (135 + 8 * k))
     for k in (1, 2, 3):
         case("2-entry-behind-%d" % (18 + k), bench + b"".join(sleeps[:k]) + more, "refused 2 0 %d 0" % (135 + 8 * k))
         case("2-end-behind-%d" % (18 + k), bench + b"".join(sleeps[:k]) + end(5), "refused 2 0 %d 0" % (135 + 8 * k))
-    case("2-23-behind-22", bench + b"".join(sleeps) + bytes([23, 0, 1, 3]), "refused 2 0 167 0")
+    case("2-24-behind-22", bench + b"".join(sleeps) + bytes([24, 0, 1, 3]), "refused 2 0 167 0")
     case("12-tag-behind-the-end", trace([], 5) + b"".join(sleeps), "refused 12 0 142 0")
     good("tags-and-no-sleep", [(0, act(0)), (15, rd(0))], 20, **SLEEPS)
 
@@ -623,7 +623,7 @@ def parts_tag_cases():
     for k in (1, 2, 3):
         case("2-25-behind-%d" % (18 + k), bench + b"".join(sleeps[:k]) + gap + b"".join(sleeps[k:]) + more, "refused 2 0 %d 0" % (135 + 8 * k))
     case("2-19-behind-25", bench + gap + b"".join(sleeps) + more, "refused 2 0 139 0")
-    for tag in (23, 24, 27, 31):
+    for tag in (24, 27, 31):
         case("2-%d-behind-25" % tag, bench + gap + bytes([tag]), "refused 2 0 139 0")
         case("2-%d-behind-18" % tag, bench + bytes([tag]), "refused 2 0 135 0")
     case("12-25-behind-the-end", bench + gap + end(5) + gap, "refused 12 0 146 0")
@@ -880,7 +880,7 @@ def heat_tag_cases():
     case("2-26-before-18", b"".join(fields[:17]) + hot + fields[17] + more, "refused 2 0 127 0")
     for k in (1, 2, 3):
         case("2-26-behind-%d" % (18 + k), bench + b"".join(sleeps[:k]) + hot, "refused 2 0 %d 0" % (135 + 8 * k))
-    for tag in (19, 23, 25, 27):
+    for tag in (19, 24, 25, 27):
         case("2-%d-behind-26" % tag, bench + hot + bytes([tag]), "refused 2 0 142 0")
     case("2-26-behind-an-entry", bench + entry(0, NOP) + hot + end(5), "refused 2 0 145 0")
     case("12-26-behind-the-end", bench + end(5) + hot, "refused 12 0 142 0")
@@ -901,6 +901,219 @@ def heat_tag_cases():
     case("12-34-behind-the-end", bench + end(5) + heat, "refused 12 0 142 0")
 
 
+# By OP4 of MR2 and OP7-5 of MR1, and on a card whose tWR is 13 cycles, which no pair gives
+LISTED = {(0, 1): 3, (0, 4): 6, (0, 6): 8, (0, 7): 9, (1, 0): 10, (1, 1): 11, (1, 2): 12, (1, 4): 14, (1, 6): 16}
+THIRTEEN = dict(tWR=(16250, 4))
+
+
+def mr1(op75, rest=3):
+    return op75 << 5 | rest
+
+
+def mr2(op4):
+    """RL 12 and WL 6."""
+    return 0x1A if op4 else 0x0A
+
+
+def recovers(nwr, at=30):
+    """The first cycle for idle use by rule 18, on the bench card with WL 6, from a write with AP at this one."""
+    return at + 6 + 5 + nwr + 15
+
+
+def nwr_pair_cases():
+    """Every pair, on the card and written; where no nWR is listed, and where there is no MR1, it is n(tWR)."""
+    for op4 in (0, 1):
+        for op75 in range(8):
+            name, cycle = "nwr-%d-%s" % (op4, format(op75, "03b")), recovers(LISTED.get((op4, op75), 13))
+            bound(name, [(0, act(0)), (30, wr(0, 1))], cycle - 1, act(0), 18, cycle, mr1=mr1(op75), mr2=mr2(op4), **THIRTEEN)
+            # OP4 and OP3 of MR1 are free and are not MR2's
+            late = [(0, mrw(1, mr1(op75, 0x03 if op4 else 0x1B))), (10, act(5)), (60, wr(5, 1))]
+            bound(name + "-written", late, cycle + 29, act(5), 18, cycle + 30, mr2=mr2(op4), **THIRTEEN)
+        bound("nwr-%d-none" % op4, [(0, act(0)), (30, wr(0, 1))], recovers(13) - 1, act(0), 18, recovers(13), mr2=mr2(op4), **THIRTEEN)
+    slow = dict(period=6000, mr2=0x01, mr1=mr1(1))
+    bound("nwr-slow", [(0, act(0)), (15, wr(0, 1))], 26, act(0), 18, 27, **slow)
+    bound("nwr-set-b", [(0, act(0)), (30, wr(0, 1))], 74, act(0), 18, 75, mr1=mr1(6), mr2=0x5A)
+    bound("nwr-longest", [(0, act(0)), (30, wr(0, 1))], 78, act(0), 18, 79, mr1=mr1(6), mr2=0x5E)
+    # the card's tWR is nothing to a listed pair, be it longer or shorter
+    bound("nwr-most-twr", [(0, act(0)), (30, wr(0, 1))], 58, act(0), 18, 59, mr1=mr1(1), mr2=0x0A, tWR=(1000000, 255))
+    bound("nwr-least-twr", [(0, act(0)), (30, wr(0, 1))], 71, act(0), 18, 72, mr1=mr1(6), tWR=(0, 0))
+    bound("nwr-unlisted-most-twr", [(0, act(0)), (30, wr(0, 1))], recovers(800) - 1, act(0), 18, recovers(800), mr1=mr1(7), tWR=(1000000, 255))
+    bound("nwr-unlisted-floor", [(0, act(0)), (30, wr(0, 1))], recovers(255) - 1, act(0), 18, recovers(255), mr1=mr1(3), tWR=(0, 255))
+
+
+def nwr_write_cases():
+    """MR1 and OP4 of MR2 as they stood at the write."""
+    three, sixteen, quick = dict(mr1=mr1(1), mr2=0x0A, **THIRTEEN), dict(mr1=mr1(6), **THIRTEEN), dict(tMRW=(0, 0))
+    opened = [(0, act(0)), (30, wr(0, 1))]
+
+    def written(name, writes, nwr, **changed):
+        before = [(10 * k, mrw(ma, op)) for k, (ma, op) in enumerate(writes)] + [(40, act(0)), (70, wr(0, 1))]
+        bound("nwr-" + name, before, recovers(nwr, 70) - 1, act(0), 18, recovers(nwr, 70), **changed)
+
+    written("card-then-written", [(1, mr1(1))], 11, **sixteen)
+    written("card-then-unlisted", [(1, mr1(7))], 13, **sixteen)
+    written("unlisted-then-written", [(1, mr1(4))], 14, mr1=mr1(5), **THIRTEEN)
+    written("written-twice", [(1, mr1(4)), (1, mr1(0))], 10, **THIRTEEN)
+    written("op4-cleared", [(2, 0x0A)], 8, **sixteen)
+    written("op4-set", [(2, 0x1A)], 11, **three)
+    written("op4-before-mr1", [(2, 0x0A), (1, mr1(7))], 9, **sixteen)
+    written("op4-behind-mr1", [(1, mr1(7)), (2, 0x0A)], 9, **sixteen)
+    written("op4-alone", [(2, 0x0A)], 13, **THIRTEEN)
+    written("op4-and-back", [(2, 0x0A), (2, 0x1A)], 13, **THIRTEEN)
+    for ma in (3, 11, 16, 17):
+        written("ma-%d" % ma, [(ma, mr1(1))], 16, **sixteen)
+        written("ma-%d-alone" % ma, [(ma, mr1(1))], 13, **THIRTEEN)
+    written("mr2-rewritten", [(2, 0x1A)], 16, **sixteen)
+    # no other entry touches MR1
+    others = [(0, REFAB), (104, REFPB), (160, PREA), (180, mrr(1)), (190, mr4(3)), (200, act(0)), (215, rd(0)), (235, NOP), (240, wr(0, 1))]
+    bound("nwr-kept", others, recovers(16, 240) - 1, act(0), 18, recovers(16, 240), **sixteen)
+    # what is written behind it moves nothing: the write is let in by the nWR of before, and would have to wait by the new one
+    for name, later in (("mr1", mrw(1, mr1(7))), ("mr1-unlisted", mrw(1, mr1(2))), ("op4", mrw(2, 0x1A))):
+        bound("nwr-then-" + name, opened, 58, later, 18, 59, **three)
+        good("nwr-of-before-" + name, opened + [(59, later), (60, act(0))], 80, "accepted 4 0 0", **three, **quick)
+        good("nwr-of-before-refab-" + name, opened + [(59, later), (60, REFAB)], 80, "accepted 4 1 -1", **three, **quick)
+    good("nwr-of-before-first-mr1", opened + [(56, mrw(1, mr1(6))), (57, act(0))], 80, "accepted 4 0 0", tWR=(0, 0), **quick)
+    # the tRPpb of the later entry is the one thing that can still grow
+    raised = [(59, mrw(1, mr1(7))), (60, mr4(6))]
+    bound("nwr-of-before-hot", opened + raised, 63, act(0), 18, 64, hot=6250, **three, **quick)
+    # of two writes with AP the latest counts, by its own nWR; a write without AP is none
+    again = opened + [(72, mrw(1, mr1(0))), (82, act(0)), (112, wr(0, 1))]
+    bound("nwr-latest", again, recovers(10, 112) - 1, act(0), 18, recovers(10, 112), **sixteen)
+    bound("nwr-not-of-wr", [(0, act(0)), (30, wr(0)), (54, pre(0))], 68, act(0), 5, 69, **sixteen)
+    two = [(0, act(0)), (8, act(1)), (30, wr(1, 1)), (40, wr(0, 1))]
+    bound("nwr-own-bank", two, 71, act(1), 18, 72, **sixteen)
+    bound("nwr-other-bank", two, 81, act(0), 18, 82, **sixteen)
+    good("nwr-no-other-bank", two + [(48, act(2))], 80, "accepted 5 0 0", **sixteen)
+
+
+def nwr_later_cases():
+    """Idle use in every form as the later entry; rule 17 keeps n(tWR), with AP too."""
+    opened = [(0, act(0)), (30, wr(0, 1))]
+    for name, nwr, changed in (("3", 3, dict(mr1=mr1(1), mr2=0x0A)), ("16", 16, dict(mr1=mr1(6)))):
+        cycle = recovers(nwr)
+        for later, pins in (("refpb", REFPB), ("refab", REFAB), ("mrw", mrw(1, 3)), ("mrw-2", mrw(2, 0x1A)), ("mrw-17", mrw(17, 0))):
+            bound("nwr-%s-%s" % (name, later), opened, cycle - 1, pins, 18, cycle, **changed)
+        for later, pins in (("self-refresh", SELF), ("self-refresh-pb", SELF_PB), ("deep", DEEP)):
+            bound("nwr-%s-%s" % (name, later), opened, cycle - 1, pins, 18, cycle, **changed, **SLEEPS)
+        for later, pins in (("pre", pre(0)), ("prea", PREA)):
+            bound("nwr-%s-rule17-%s" % (name, later), opened, 52, pins, 17, 53, **changed)
+            bound("nwr-%s-rule17-%s-no-ap" % (name, later), opened[:1] + [(30, wr(0))], 52, pins, 17, 53, **changed)
+        bound("nwr-%s-rule14" % name, opened, 46, mrr(0), 14, 47, **changed)
+        good("nwr-%s-free" % name, opened + [(31, NOP), (38, act(1)), (48, mrr(1))], 60, **changed)
+    good("nwr-refpb-other-bank", [(0, act(1)), (30, wr(1, 1)), (40, REFPB)], 100, mr1=mr1(6))
+    most = [(0, act(0)), (8, act(1)), (30, wr(0, 1)), (34, wr(1, 1))]
+    bound("nwr-refab-greatest", most, 75, REFAB, 18, 76, mr1=mr1(6))
+    # by 18 the next ACT may come before a PRE may: 30 + 6 + 5 + 3 + 3 against 30 + 6 + 5 + 12
+    soon = dict(mr1=mr1(1), mr2=0x0A, tRPpb=(0, 3), tRAS=(0, 3), tRCD=(0, 3))
+    bound("nwr-act-before-pre", opened, 46, act(0), 18, 47, **soon)
+    bound("nwr-pre-behind-act", opened + [(47, act(0))], 52, pre(0), 17, 53, **soon)
+    bound("nwr-prea-behind-act", opened + [(47, act(0))], 52, PREA, 17, 53, **soon)
+    bad("nwr-9-before-18", [(0, act(0)), (15, wr(0, 1)), (43, act(0))], 60, 10, 9, 48, mr1=mr1(1), mr2=0x0A)
+    bound("nwr-below-9", [(0, act(0)), (15, wr(0, 1))], 47, act(0), 9, 48, mr1=mr1(1), mr2=0x0A)
+    bad("order-9-18", opened + [(40, mrw(1, 4))], 60, 9, mr1=mr1(6))
+
+
+def nwr_sleep_cases():
+    """Sleeps leave MR1 alone, and delays run over them."""
+    s, opened = SLEEPS, [(0, act(0)), (30, wr(0, 1))]
+    for name, fall, wait in (("power-down", DOWN, 8), ("self-refresh", SELF, 112)):
+        awake = 40 + wait
+        write = [(awake, act(0)), (awake + 30, wr(0, 1))]
+        bound("nwr-card-%s" % name, [(10, fall), (40, WAKE)] + write, recovers(16, awake + 30) - 1, act(0), 18, recovers(16, awake + 30), mr1=mr1(6), **s)
+        bound("nwr-written-%s" % name, [(0, mrw(1, mr1(4))), (10, fall), (40, WAKE)] + write, recovers(14, awake + 30) - 1, act(0), 18, recovers(14, awake + 30), **s)
+    bound("nwr-asleep-between", opened + [(31, DOWN), (40, 0), (50, WAKE)], 71, act(0), 18, 72, mr1=mr1(6), **s)
+    # asleep the pins are ignored, those of an MRW too
+    asleep = [(10, DOWN), (20, mrw(1, mr1(0)) & ~CKE), (40, WAKE), (48, act(0)), (78, wr(0, 1))]
+    bound("nwr-asleep-mrw", asleep, recovers(16, 78) - 1, act(0), 18, recovers(16, 78), mr1=mr1(6), **s)
+    last = 2**32 - 1
+    woken = [(60, SELF), (last - 199, WAKE), (last - 80, act(0)), (last - 30, wr(0, 1))]
+    bad("nwr-far", woken + [(last, act(0))], last, 10, 18, last + 12, mr1=mr1(6), **s)
+    good("nwr-far-good", woken[:3] + [(last - 42, wr(0, 1)), (last, act(0))], last, mr1=mr1(6), **s)
+
+
+def nwr_hot_cases():
+    """Code 110 at the later entry raises tRPpb, and neither nWR nor tWR."""
+    h, opened = dict(hot=1875), [(0, act(0)), (30, wr(0, 1))]
+    for name, nwr, changed in (("3", 3, dict(mr1=mr1(1), mr2=0x0A)), ("16", 16, dict(mr1=mr1(6))), ("unlisted", 12, dict(mr1=mr1(3)))):
+        hot = recovers(nwr) + 1
+        bound("nwr-hot-" + name, opened + [(31, mr4(6))], hot - 1, act(0), 18, hot, **changed, **h)
+        bound("nwr-hot-last-" + name, opened + [(40, mr4(5)), (hot - 2, mr4(6))], hot - 1, act(0), 18, hot, **changed, **h)
+        bound("nwr-cooled-" + name, [(0, mr4(6)), (1, act(0)), (30, wr(0, 1)), (31, mr4(3))], hot - 2, act(0), 18, hot - 1, **changed, **h)
+        bound("nwr-hot-refab-" + name, opened + [(31, mr4(6))], hot - 1, REFAB, 18, hot, **changed, **h)
+    bound("nwr-hot-rule17", opened + [(31, mr4(6))], 52, pre(0), 17, 53, mr1=mr1(6), **h)
+    bound("nwr-hot-untagged", opened + [(31, mr4(6))], 71, act(0), 18, 72, mr1=mr1(6))
+
+
+def nwr_parts_cases():
+    """Each part has its own MR1, and both begin with the card's."""
+    g = dict(gap=2)
+    for p, q in ((0, 1), (1, 0)):
+        n = "-%d" % p
+        opened = [(20, to(p, act(0))), (21, to(q, act(0))), (60, to(p, wr(0, 1))), (70, to(q, wr(0, 1)))]
+        bound("parts-nwr-card" + n, opened[::2], recovers(16, 60) - 1, to(p, act(0)), 18, recovers(16, 60), mr1=mr1(6), **g)
+        for name, changed, own, other in (("none", {}, 14, 12), ("card", dict(mr1=mr1(6)), 14, 16)):
+            first = [(0, to(p, mrw(1, mr1(4))))] + opened
+            bound("parts-nwr-%s-own%s" % (name, n), first, recovers(own, 60) - 1, to(p, act(0)), 18, recovers(own, 60), **changed, **g)
+            bound("parts-nwr-%s-other%s" % (name, n), first, recovers(other, 70) - 1, to(q, act(0)), 18, recovers(other, 70), **changed, **g)
+        apart = [(0, to(p, mrw(1, mr1(1)))), (1, to(q, mrw(1, mr1(6)))), (10, to(p, mrw(2, 0x0A)))] + opened
+        bound("parts-nwr-apart" + n, apart, recovers(3, 60) - 1, to(p, act(0)), 18, recovers(3, 60), **g)
+        bound("parts-nwr-apart-other" + n, apart, recovers(16, 70) - 1, to(q, act(0)), 18, recovers(16, 70), **g)
+        bound("parts-nwr-apart-refab" + n, apart, recovers(16, 70) - 1, to(q, REFAB), 18, recovers(16, 70), **g)
+        # the other part's registers written between the write and the later entry
+        between = [(20, to(p, act(0))), (60, to(p, wr(0, 1))), (61, to(q, mrw(1, mr1(0)))), (71, to(q, mrw(2, 0x0A)))]
+        bound("parts-nwr-between" + n, between, recovers(16, 60) - 1, to(p, act(0)), 18, recovers(16, 60), mr1=mr1(6), **g)
+        bound("parts-nwr-hot" + n, opened + [(71, mr4(6))], recovers(16, 70), to(q, act(0)), 18, recovers(16, 70) + 1, mr1=mr1(6), hot=1875, **g)
+        good("parts-nwr-other-free" + n, opened[:3:2] + [(61, to(q, act(0)))], 80, "accepted 3 0 0 0", mr1=mr1(6), **g)
+
+
+def nwr_tag_cases():
+    """Tag 23: one byte behind 18 or 22, once, before 25 and 26; OP2-0 are 011."""
+    fields, sleeps = card_fields(), card_fields(**SLEEPS)[18:]
+    bench, asleep, more, mode = b"".join(fields), card(**SLEEPS), trace([(10, NOP)], 60, b""), field(23, bytes([mr1(2)]))
+    gap, hot, two = field(25, bytes([2])), field(26, num(1875, 4)), trace([(10, NEITHER)], 60, b"")
+    for value in (0x03, 0x0B, 0x13, 0x1B, 0x43, 0xFB):
+        case("23-of-%02x" % value, bench + field(23, bytes([value])) + more, "accepted 0 0 0")
+    for value in (0x00, 0x01, 0x02, 0x04, 0x05, 0x06, 0x07, 0xF8, 0xFF):
+        case("4-23-of-%02x" % value, bench + field(23, bytes([value])) + more, "refused 4 0 135 0")
+    case("23-behind-22", asleep + mode + trace([(10, DOWN)], 60, b""), "accepted 0 0 0")
+    case("4-23-behind-22", asleep + field(23, bytes([mr1(2, 2)])) + more, "refused 4 0 167 0")
+    case("23-before-25", bench + mode + gap + two, "accepted 0 0 0 0")
+    case("23-before-26", bench + mode + hot + more, "accepted 0 0 0")
+    case("23-before-25-and-26", bench + mode + gap + hot + two, "accepted 0 0 0 0")
+    case("23-between-22-and-26", asleep + mode + hot + trace([(10, DOWN)], 60, b""), "accepted 0 0 0")
+    case("23-before-34", bench + mode + entry(5, mr4(4)) + more, "accepted 0 0 0")
+    case("23-before-the-end", bench + mode + end(5), "accepted 0 0 0")
+    case("4-25-behind-23", asleep + mode + gap + two, "refused 4 0 171 0")
+    case("4-26-behind-23", bench + mode + field(26, num(1000001, 4)) + more, "refused 4 0 139 0")
+    case("4-23-before-2", bench + field(23, bytes([4])) + mode + more, "refused 4 0 135 0")
+    for k in (1, 2, 3):
+        case("1-cut-23-%d" % k, bench + mode[:k], "refused 1 0 135 0")
+        case("1-cut-23-asleep-%d" % k, asleep + mode[:k], "refused 1 0 167 0")
+    case("1-ends-behind-23", bench + mode, "refused 1 0 139 0")
+    case("1-ends-behind-23-asleep", asleep + mode, "refused 1 0 171 0")
+    for name, head in (("none", [0, 0]), ("two", [0, 2, 3, 3]), ("high", [1, 1, 3])):
+        case("3-23-" + name, bench + bytes([23] + head) + more, "refused 3 0 135 0")
+        case("3-23-asleep-" + name, asleep + bytes([23] + head) + more, "refused 3 0 167 0")
+    case("2-23-twice", bench + mode + mode + more, "refused 2 0 139 0")
+    case("2-23-twice-asleep", asleep + mode + mode + more, "refused 2 0 171 0")
+    case("2-23-behind-25", bench + gap + bytes([23]), "refused 2 0 139 0")
+    case("2-23-behind-25-whole", bench + gap + mode + two, "refused 2 0 139 0")
+    case("2-23-behind-26", bench + hot + bytes([23]), "refused 2 0 142 0")
+    case("2-23-behind-26-whole", bench + hot + mode + more, "refused 2 0 142 0")
+    case("2-23-behind-an-entry", bench + entry(0, NOP) + mode + end(5), "refused 2 0 145 0")
+    case("2-23-behind-34", bench + entry(5, mr4(4)) + mode + end(5), "refused 2 0 143 0")
+    case("2-23-twice-behind-an-entry", bench + mode + entry(0, NOP) + mode + end(5), "refused 2 0 149 0")
+    case("12-23-behind-the-end", bench + end(5) + mode, "refused 12 0 142 0")
+    case("2-23-first", mode + bench + more, "refused 2 0 0 0")
+    case("2-23-before-18", b"".join(fields[:17]) + mode + fields[17] + more, "refused 2 0 127 0")
+    for k, tag in ((1, 20), (2, 21), (3, 22)):
+        case("2-23-in-place-of-%d" % tag, bench + b"".join(sleeps[:k]) + bytes([23]), "refused 2 0 %d 0" % (135 + 8 * k))
+        case("2-23-before-%d" % tag, bench + b"".join(sleeps[:k]) + mode + b"".join(sleeps[k:]) + more, "refused 2 0 %d 0" % (135 + 8 * k))
+    case("2-23-before-19", bench + mode + b"".join(sleeps) + more, "refused 2 0 139 0")
+    for tag in (1, 18, 20, 22, 24, 27, 31, 35):
+        case("2-%d-behind-23" % tag, bench + mode + bytes([tag]), "refused 2 0 139 0")
+
+
 def example_cases():
     """The traces of examples/, made of their texts, with the verdicts of the table in its README; examples/NAME.trace is a link to the file here."""
     folder = "../../examples/"
@@ -915,11 +1128,13 @@ def example_cases():
 
 SMALL = {"cuts": trace([(0, act(0)), (15, rd(0))], 20), "cuts-asleep": trace([(0, DOWN), (15, WAKE), (23, act(0))], 40, card(**SLEEPS)),
          "cuts-parts": trace([(0, to(0, act(0))), (1, to(1, act(0))), (16, to(1, rd(0)))], 40, card(gap=2)),
-         "cuts-heat": trace([(0, act(0)), (5, mr4(6)), (16, rd(0)), (17, mr4(0x83))], 40, card(hot=1875))}
+         "cuts-heat": trace([(0, act(0)), (5, mr4(6)), (16, rd(0)), (17, mr4(0x83))], 40, card(hot=1875)),
+         "cuts-nwr": trace([(0, act(0)), (20, wr(0, 1)), (62, mrw(1, mr1(0)))], 80, card(mr1=mr1(6), hot=1875))}
 
 for build in (bench_cases, rule_cases, mr2_cases, refusal_cases, order_cases, account_cases, form_cases, move_cases, sleep_rule_cases, sleep_account_cases,
               sleep_tag_cases, parts_pins_cases, parts_own_cases, parts_bus_cases, parts_account_cases, parts_tag_cases, heat_interval_cases, heat_due_cases,
-              heat_gap_cases, heat_form_cases, heat_raise_cases, heat_sleep_cases, heat_parts_cases, heat_tag_cases, example_cases):
+              heat_gap_cases, heat_form_cases, heat_raise_cases, heat_sleep_cases, heat_parts_cases, heat_tag_cases, nwr_pair_cases, nwr_write_cases,
+              nwr_later_cases, nwr_sleep_cases, nwr_hot_cases, nwr_parts_cases, nwr_tag_cases, example_cases):
     build()
 
 shutil.rmtree("data", ignore_errors=True)

@@ -1,17 +1,23 @@
-"""Document 01 with requests One, Nine and Eleven of document 02 in Python, over the list of entries and cycle by cycle: slow and plain, written from the documents alone. It
-knows nothing of the Rattle code."""
+"""Document 01 with requests One, Two, Nine and Eleven of document 02 in Python, over the list of entries and cycle by cycle: slow and plain, written from the
+documents alone. It knows nothing of the Rattle code."""
 
 TIMINGS = ["tRCD", "tRPpb", "tRPab", "tRAS", "tRRD", "tFAW", "tRTP", "tWR", "tWTR", "tDQSCK", "tRFCab", "tRFCpb", "tMRR", "tMRW"]
 SLEEPS = ["tCKE", "tXP", "tCKESR", "tXSR"]
-SIZES = {1: 4, 2: 1, 3: 2, 4: 4, **{5 + k: 5 for k in range(18)}, 25: 1, 26: 4, 32: 7, 33: 4, 34: 5}
+SIZES = {1: 4, 2: 1, 3: 2, 4: 4, **{5 + k: 5 for k in range(18)}, 23: 1, 25: 1, 26: 4, 32: 7, 33: 4, 34: 5}
 #       code: (least ps, RL, WL A, WL B)
 ROWS = {1: (6000, 3, 1, 1), 4: (2500, 6, 3, 3), 6: (1875, 8, 4, 4), 7: (1670, 9, 5, 5), 8: (1500, 10, 6, 8), 9: (1360, 11, 6, 9),
         10: (1250, 12, 6, 9), 12: (1071, 14, 8, 11), 14: (938, 16, 8, 13)}
+# OP7-5 of MR1 and OP4 of MR2: the programmed nWR
+NWRS = {(1, 0): 3, (4, 0): 6, (6, 0): 8, (7, 0): 9, (0, 1): 10, (1, 1): 11, (2, 1): 12, (4, 1): 14, (6, 1): 16}
 MAS = {1, 2, 3, 11, 16, 17}
 # OP2-0 of MR4: the interval in quarters of tREFI; what code 110 raises
 QUARTERS = {1: 16, 2: 8, 3: 4, 4: 2, 5: 1, 6: 1}
 PLAIN, HOT = 3, 6
 RAISED = ("tRCD", "tRPpb", "tRPab", "tRAS", "tRRD")
+
+
+def mr1_good(v):
+    return v & 7 == 3
 
 
 def mr2_good(period, v):
@@ -26,15 +32,20 @@ def wl(v):
     return ROWS[v & 15][3 if v & 0x40 else 2]
 
 
+def nwr(mr1, mr2):
+    """None where n(tWR) counts: there is no MR1 yet, or the pair is not listed."""
+    return None if mr1 is None else NWRS.get((mr1 >> 5, mr2 >> 4 & 1))
+
+
 def up(d, p):
     return -(-d // p)
 
 
 class Card:
-    """Fields by tag, as they come; a timing is (duration, floor), the gap None without tag 25."""
+    """Fields by tag, as they come; a timing is (duration, floor), MR1 None without tag 23, the gap without 25."""
 
     def __init__(self):
-        self.timing, self.sleeps, self.gap, self.more = {}, False, None, 0
+        self.timing, self.sleeps, self.mr1, self.gap, self.more = {}, False, None, None, 0
 
     def delays(self, code):
         """In cycles, by the code in force."""
@@ -61,6 +72,9 @@ class Card:
         if tag == 4:
             self.trefi = x
             return self.period <= x <= 20000000
+        if tag == 23:
+            self.mr1 = x
+            return mr1_good(x)
         if tag == 25:
             self.gap = x
             return not self.sleeps
@@ -145,10 +159,10 @@ def decode(pins):
 
 
 class Entry:
-    """An entry that was taken, with MR2 and the round counter as they stood before it."""
+    """An entry that was taken, with MR1, MR2 and the round counter as they stood before it."""
 
-    def __init__(self, t, cmd, mr2, counter):
-        self.t, self.cmd, self.mr2, self.counter = t, cmd, mr2, counter
+    def __init__(self, t, cmd, mr1, mr2, counter):
+        self.t, self.cmd, self.mr1, self.mr2, self.counter = t, cmd, mr1, mr2, counter
         self.bank = counter if cmd.kind == "REFPB" else cmd.bank
 
 
@@ -184,6 +198,11 @@ def bounds(card, past, cmd, counter):
     of = lambda kind, b=None, ap=None: latest(past, lambda e: e.cmd.kind == kind and (b is None or e.bank == b) and (ap is None or e.cmd.ap == ap))
     out = []
 
+    def recovery(e):
+        """From the last data of a write with AP to its precharge."""
+        programmed = nwr(e.mr1, e.mr2)
+        return t["tWR"] if programmed is None else programmed
+
     def rule(n, e, delay):
         if e is not None:
             out.append((n, e.t + delay(e) if callable(delay) else e.t + delay))
@@ -202,7 +221,7 @@ def bounds(card, past, cmd, counter):
             rule(5 if p.cmd.kind == "PRE" else 6, p, t["tRPpb"] if p.cmd.kind == "PRE" else t["tRPab"])
         rule(9, of("ACT", b), t["tRC"])
         rule(16, of("RD", b, True), max(4, t["tRTP"]) + t["tRPpb"])
-        rule(18, of("WR", b, True), lambda e: wl(e.mr2) + 5 + t["tWR"] + t["tRPpb"])
+        rule(18, of("WR", b, True), lambda e: wl(e.mr2) + 5 + recovery(e) + t["tRPpb"])
     if k in ("RD", "WR"):
         rule(7, of("ACT", bank), t["tRCD"])
     for b in pres:
@@ -322,7 +341,7 @@ class Part:
 
     def __init__(self, card):
         self.past, self.account = [], Account(card.interval(PLAIN))
-        self.open, self.counter, self.mr2 = set(), 0, card.mr2
+        self.open, self.counter, self.mr1, self.mr2 = set(), 0, card.mr1, card.mr2
 
     def counts_next(self):
         """Whether the cycles after the last entry count, as long as nothing else comes."""
@@ -354,6 +373,8 @@ class Part:
             self.counter = 0
         if k == "REFPB":
             self.counter = (self.counter + 1) % 8
+        if k == "MRW" and e.cmd.ma == 1:
+            self.mr1 = e.cmd.op
         if k == "MRW" and e.cmd.ma == 2:
             self.mr2 = e.cmd.op
 
@@ -410,7 +431,7 @@ class Judge:
         bad = self.command(t, which, part, cmd) or self.settle(t, accounts, lambda a, p: a.refresh() if p is part and p.refreshed_by(cmd) else None)
         if bad:
             return bad
-        e = Entry(t, cmd, part.mr2, part.counter)
+        e = Entry(t, cmd, part.mr1, part.mr2, part.counter)
         self.entries.append((which, e))
         if which is not None:
             part.change(e)
@@ -428,7 +449,7 @@ class Judge:
         bad = self.settle(t, accounts, lambda a, p: a.temper(self.card.interval(value & 7)))
         if bad:
             return bad
-        e = Entry(t, Cmd("MR4", op=value), None, None)
+        e = Entry(t, Cmd("MR4", op=value), None, None, None)
         self.entries.append((None, e))
         for p in self.parts:
             p.past.append(e)
@@ -438,7 +459,7 @@ class Judge:
         """8, 9 and 10."""
         if not part.state_good(cmd):
             return 8, 0, 0
-        if cmd.kind == "MRW" and (cmd.ma == 1 and cmd.op & 7 != 3 or cmd.ma == 2 and not mr2_good(self.card.period, cmd.op)):
+        if cmd.kind == "MRW" and (cmd.ma == 1 and not mr1_good(cmd.op) or cmd.ma == 2 and not mr2_good(self.card.period, cmd.op)):
             return 9, 0, 0
         found = bounds(self.card, part.past, cmd, part.counter)
         if self.two and which is not None:
@@ -471,7 +492,7 @@ def may_come(last):
     """The tags that may stand behind this one; 19 to 22 come all four or not at all."""
     if last < 18 or 19 <= last < 22:
         return (last + 1,)
-    return {18: (19, 25, 26), 22: (25, 26), 25: (26,)}.get(last, ()) + (32, 33, 34)
+    return {18: (19, 23, 25, 26), 22: (23, 25, 26), 23: (25, 26), 25: (26,)}.get(last, ()) + (32, 33, 34)
 
 
 def judge(data):

@@ -1,6 +1,6 @@
 #!/usr/bin/env python3
-# What singles is to write, from document 01 and requests One, Nine and Eleven of document 02: the rules over the lists of the parts' earlier entries, the account
-# cycle by cycle; and its table of calls.
+# What singles is to write, from document 01 and requests One, Two, Nine and Eleven of document 02: the rules over the lists of the parts' earlier entries, the
+# account cycle by cycle; and its table of calls.
 #   python3 crates/singles/expected.py > crates/singles/stdout
 #   python3 crates/singles/expected.py table > crates/singles/src/table.rt
 import importlib.util, pathlib, sys
@@ -16,12 +16,16 @@ BENCH = {
     "period": 1250, "mr2": 0x1A, "R": 8192, "tREFI": 3900000,
     "ps": [18000, 18000, 21000, 42000, 10000, 50000, 7500, 15000, 7500, 5500, 130000, 60000, 0, 0, 0, 0, 0, 0],
     "floor": [3, 3, 3, 3, 2, 8, 4, 4, 4, 0, 0, 0, 4, 10, 0, 0, 0, 0],
-    "sleeps": 0, "paired": 0, "gap": 0, "raise": 0,
+    "sleeps": 0, "mr1": None, "paired": 0, "gap": 0, "raise": 0,
 }
 # code: least period, RL, WL of set A, of set B
 LATENCIES = {
     0b0001: (6000, 3, 1, 1), 0b0100: (2500, 6, 3, 3), 0b0110: (1875, 8, 4, 4), 0b0111: (1670, 9, 5, 5), 0b1000: (1500, 10, 6, 8),
     0b1001: (1360, 11, 6, 9), 0b1010: (1250, 12, 6, 9), 0b1100: (1071, 14, 8, 11), 0b1110: (938, 16, 8, 13),
+}
+# OP4 of MR2, OP7-5 of MR1: nWR
+RECOVERIES = {
+    (0, 0b001): 3, (0, 0b100): 6, (0, 0b110): 8, (0, 0b111): 9, (1, 0b000): 10, (1, 0b001): 11, (1, 0b010): 12, (1, 0b100): 14, (1, 0b110): 16,
 }
 
 
@@ -39,8 +43,13 @@ def writable(period, mr2):
     return not mr2 >> 7 & 1 and not mr2 >> 5 & 1 and mr2 & 15 in LATENCIES and LATENCIES[mr2 & 15][0] <= period
 
 
+def mr1_writable(mr1):
+    return mr1 & 7 == 0b011
+
+
 def card_good(card):
     return (938 <= card["period"] <= 100000 and writable(card["period"], card["mr2"]) and 1 <= card["R"] <= 16384
+            and (card["mr1"] is None or mr1_writable(card["mr1"]))
             and card["period"] <= card["tREFI"] <= 20000000 and all(ps <= 1000000 for ps in card["ps"] + [card["raise"]])
             and not (card["sleeps"] and card["paired"]))
 
@@ -89,16 +98,20 @@ class Pace:
         self.next, self.mr4 = min(old, number + interval(self.card, mr4)), mr4
 
 
-# ---- the list: each entry with its stamp, its kind (FALL, LOW and RISE beside the commands), its bank, AP, MR2 as it stood, and the level that a rise leaves
+# ---- the list: each entry with its stamp, its kind (FALL, LOW and RISE beside the commands), its bank, AP, MR2 and MR1 as they stood, and the level that a rise
+# leaves
 class Entry:
-    def __init__(self, stamp, kind, bank=None, ap=False, mr2=0, level=None):
-        self.stamp, self.kind, self.bank, self.ap, self.mr2, self.level = stamp, kind, bank, ap, mr2, level
+    def __init__(self, stamp, kind, bank=None, ap=False, mr2=0, mr1=None, level=None):
+        self.stamp, self.kind, self.bank, self.ap, self.mr2, self.mr1, self.level = stamp, kind, bank, ap, mr2, mr1, level
 
     def rl(self):
         return LATENCIES[self.mr2 & 15][1]
 
     def wl(self):
         return LATENCIES[self.mr2 & 15][3 if self.mr2 >> 6 & 1 else 2]
+
+    def nwr(self, twr):
+        return twr if self.mr1 is None else RECOVERIES.get((self.mr2 >> 4 & 1, self.mr1 >> 5), twr)
 
 
 def judged_as(kind, numbers):
@@ -108,16 +121,16 @@ def judged_as(kind, numbers):
     return "NOP" if kind in ("FALL", "LOW", "RISE") else kind
 
 
-# what the record remembers of the data bus
-BUS = {"rd": ["RD"], "wr": ["WR"], "turn": ["RD", "MRR"]}
+# places where the record remembers an entry, of the data bus and of bank 0: the latest of these kinds, to this bank, with AP
+REMEMBERED = {"rd": (["RD"],), "wr": (["WR"],), "turn": (["RD", "MRR"],), "wr0": (["WR"], 0), "wra0": (["WR"], 0, True)}
 
 
 class Part:
-    """The list of the part's own entries taken so far; `odd` and `noted` are stamps and MR2 values that were put where the record remembers one. The ledger stands
-    at cycle `at`; `since` is a number among the counted cycles, and of those up to `at` `skipped` are not. The pace is shared."""
+    """The list of the part's own entries taken so far; `odd` and `noted` are stamps, and MR2 and MR1 values, that were put where the record remembers one. The
+    ledger stands at cycle `at`; `since` is a number among the counted cycles, and of those up to `at` `skipped` are not. The pace is shared."""
 
     def __init__(self, card, pace):
-        self.card, self.pace, self.mr2, self.counter, self.past = card, pace, card["mr2"], 0, []
+        self.card, self.pace, self.mr2, self.mr1, self.counter, self.past = card, pace, card["mr2"], card["mr1"], 0, []
         self.at, self.number, self.since, self.skipped, self.level = 0, 0, 0, 0, "awake"
         self.odd, self.noted = {}, {}
 
@@ -127,8 +140,8 @@ class Part:
 
     def good(self, last):
         stamps = [e.stamp for e in self.past if e.kind not in ("NOP", "LOW")] + list(self.odd.values())
-        noted = [v for place, v in self.noted.items() if place[6:] not in BUS] + [e.mr2 for place in ("wr", "turn") for e in self.heard(place)]
-        values = [self.mr2] + [e.mr2 for e in self.past if e.kind in ("RD", "WR", "MRR")] + noted
+        written = [e for bank in range(8) for ap in (None, True) for e in self.written(bank, ap)]
+        values = [self.mr2] + [e.mr2 for e in self.remembered("wr") + self.remembered("turn") + written]
         by_last = all(last is not None and t <= last for t in stamps)
         return (self.ledger_good() and all(writable(self.card["period"], v) for v in values) and by_last
                 and (last is None or last <= self.at) and self.counter <= 7)
@@ -180,12 +193,17 @@ class Part:
         found = [e for e in self.past if e.kind in kinds and bank in (None, e.bank) and ap in (None, e.ap)]
         return found[-1:]
 
-    def heard(self, place):
-        """The latest RD, WR, or RD or MRR, as the record remembers it."""
-        found = self.latest(BUS[place])
+    def remembered(self, place):
+        """The latest entry that this place is of, with what was put there."""
+        found = self.latest(*REMEMBERED[place])
         stamps = [self.odd["at-" + place]] if "at-" + place in self.odd else [e.stamp for e in found]
-        mr2 = self.noted.get("noted-" + place, found[0].mr2 if found else 0)
-        return [Entry(stamp, place, mr2=mr2) for stamp in stamps]
+        mr2 = self.noted.get("noted-mr2-" + place, found[0].mr2 if found else 0)
+        mr1 = self.noted.get("noted-mr1-" + place, found[0].mr1 if found else None)
+        return [Entry(stamp, place, mr2=mr2, mr1=mr1) for stamp in stamps]
+
+    def written(self, bank, ap=None):
+        """The latest WR to the bank; what is put is of bank 0."""
+        return self.latest(["WR"], bank, ap) if bank else self.remembered("wra0" if ap else "wr0")
 
     def exit_from(self, level):
         return [e for e in self.past if e.kind == "RISE" and e.level == level][-1:]
@@ -214,11 +232,11 @@ class Part:
             out += after(6, [e for e in precharge if e.kind == "PREA"], n["tRPab"])
             out += after(9, latest(["ACT"], b), n["tRC"])
             out += after(16, latest(["RD"], b, True), max(4, n["tRTP"]) + n["tRPpb"])
-            out += after(18, latest(["WR"], b, True), lambda e: e.wl() + 5 + n["tWR"] + n["tRPpb"])
+            out += after(18, self.written(b, True), lambda e: e.wl() + 5 + e.nwr(n["tWR"]) + n["tRPpb"])
         for b in named:
             out += after(8, latest(["ACT"], b), n["tRAS"])
             out += after(15, latest(["RD"], b), max(4, n["tRTP"]))
-            out += after(17, latest(["WR"], b), lambda e: e.wl() + 5 + n["tWR"])
+            out += after(17, self.written(b), lambda e: e.wl() + 5 + n["tWR"])
         if kind in ("RD", "WR"):
             out += after(7, latest(["ACT"], bank), n["tRCD"])
         for b in everyone:
@@ -231,9 +249,9 @@ class Part:
             out += after(11, four[:1] if len(four) == 4 else [], n["tFAW"])
         for rule, part, gap in [(12, self, 0)] + ([(25, other, self.card["gap"])] if other else []):
             if kind in ("RD", "MRR"):
-                out += after(rule, part.heard("rd"), 4 + gap) + after(rule + 2, part.heard("wr"), lambda e: e.wl() + 5 + n["tWTR"] + gap)
+                out += after(rule, part.remembered("rd"), 4 + gap) + after(rule + 2, part.remembered("wr"), lambda e: e.wl() + 5 + n["tWTR"] + gap)
             if kind == "WR":
-                out += after(rule, part.heard("wr"), 4 + gap) + after(rule + 1, part.heard("turn"), lambda e: e.rl() + n["tDQSCK"] + 5 - e.wl() + gap)
+                out += after(rule, part.remembered("wr"), 4 + gap) + after(rule + 1, part.remembered("turn"), lambda e: e.rl() + n["tDQSCK"] + 5 - e.wl() + gap)
         exits = {level: self.exit_from(level) for level in ("power-down", "self-refresh")}
         if entry == "FALL":
             out += after(21, exits["power-down"] + exits["self-refresh"], n["tCKE"])
@@ -252,7 +270,7 @@ class Part:
         like = judged_as(kind, numbers)
         refuse(not self.state_good(like, bank), 8)
         if kind == "MRW":
-            refuse(numbers["ma"] == 1 and numbers["op"] & 7 != 0b011, 9)
+            refuse(numbers["ma"] == 1 and not mr1_writable(numbers["op"]), 9)
             refuse(numbers["ma"] == 2 and not writable(self.card["period"], numbers["op"]), 9)
         delays = self.delays(like, bank, kind, other)
         for rule in [*range(1, 19), *range(21, 28)]:
@@ -261,10 +279,14 @@ class Part:
 
     def take(self, stamp, kind, numbers):
         bank = self.counter if kind == "REFpb" else numbers.get("bank")
-        self.past.append(Entry(stamp, kind, bank, bool(numbers.get("ap")), self.mr2, self.level))
-        for place in [place for place, kinds in BUS.items() if kind in kinds]:
+        entry = Entry(stamp, kind, bank, bool(numbers.get("ap")), self.mr2, self.mr1, self.level)
+        self.past.append(entry)
+        for place in [place for place, asked in REMEMBERED.items() if entry in self.latest(*asked)]:
             self.odd.pop("at-" + place, None)
-            self.noted.pop("noted-" + place, None)
+            self.noted.pop("noted-mr2-" + place, None)
+            self.noted.pop("noted-mr1-" + place, None)
+        if kind == "MRW" and numbers["ma"] == 1:
+            self.mr1 = numbers["op"]
         if kind == "MRW" and numbers["ma"] == 2:
             self.mr2 = numbers["op"]
         if kind == "REFpb":
@@ -311,6 +333,9 @@ class Judge:
 
     def __init__(self):
         self.card = {k: v[:] if isinstance(v, list) else v for k, v in BENCH.items()}
+        self.fresh()
+
+    def fresh(self):
         self.pace = Pace(self.card)
         self.last, self.both = None, [Part(self.card, self.pace), Part(self.card, self.pace)]
 
@@ -386,14 +411,14 @@ class Judge:
             self.card[place] = value
         elif place in ("next", "mr4"):
             setattr(self.pace, place, value)
-        elif place == "starting":
-            self.card["mr2"] = value
+        elif place in ("starting-mr2", "starting-mr1"):
+            self.card[place[9:]] = value
         elif place in TIMINGS:
             self.card["ps"][TIMINGS.index(place)] = value
         elif place.endswith("floor"):
             self.card["floor"][TIMINGS.index(place[:-5])] = value
         elif place == "last":
-            self.last = None if value == "none" else value
+            self.last = value
         else:
             self.both[part].put(place, value)
 
@@ -409,7 +434,9 @@ SLEEPER = ["put sleeps 1", "put tCKE 7500", "put tXP 10000", "put tCKESR 15000",
 PAIR = ["put paired 1", "put gap 2"]
 # with tag 26: 1,875 ps
 HOT = ["put raise 1875"]
-CARDS = {"sleeper": SLEEPER, "pair": PAIR, "hot": HOT}
+# with a tWR of 13 cycles
+THIRTEEN = ["put tWR 16250"]
+CARDS = {"sleeper": SLEEPER, "pair": PAIR, "hot": HOT, "thirteen": THIRTEEN}
 
 
 def parted(call):
@@ -439,7 +466,9 @@ def pins_of(words, part):
 def run(judge, call):
     words, part = parted(call)
     if words[0] == "put":
-        return judge.put(words[1], words[2] if words[2] == "none" else int(words[2], 0), part or 0)
+        return judge.put(words[1], None if words[2] == "none" else int(words[2], 0), part or 0)
+    if words[0] == "fresh":
+        return judge.fresh()
     if words[0] == "E":
         return judge.end(int(words[1]))
     if words[0] == "move":
@@ -458,7 +487,9 @@ def cases():
 
 
 # ---- the calls, as the program has them: two words each
-PLACES = {"starting": "STARTING_MR2", "R": "GROUPS", "at": "LEDGER_AT", "number": "OWED", "four": "FOUR_COUNT", "mr4": "SENSED_MR4"}
+PLACES = {"R": "GROUPS", "at": "LEDGER_AT", "number": "OWED", "four": "FOUR_COUNT", "mr4": "SENSED_MR4"}
+# an MR1 that is not there; the byte that stands there would be refused on a card, and is listed with either OP4
+NO_MR1 = "0x1C7"
 
 
 def words_of(words, part, names):
@@ -467,7 +498,9 @@ def words_of(words, part, names):
         if words[1:] == ["last", "none"]:
             return "NO_LAST", 0
         place = PLACES.get(words[1], words[1].replace("floor", "_floor").replace("-", "_").upper())
-        return place, int(words[2], 0) + 8 * (words[1] == "number")
+        return place, int(words[2].replace("none", NO_MR1), 0) + 8 * (words[1] == "number")
+    if words[0] == "fresh":
+        return "FRESH", 0
     if words[0] in ("E", "move"):
         return {"E": "END", "move": "MOVE"}[words[0]], int(words[1])
     if words[0] == "MR4":
@@ -508,8 +541,8 @@ def table():
 
 TABLE = """\
 // The calls of all cases, two numbers each: what is called, and a stamp, a cycle or a value. Pins are an entry, and MR4 with a value is a temperature; a place of
-// the record is a value put there; CASE is the next case, a line of cases.txt, whose record starts fresh with the bench card; PART is whose places and ledger those behind it are,
-// the first part's before it.
+// the record is a value put there; CASE is the next case, a line of cases.txt, whose record starts fresh with the bench card; FRESH is a fresh record with the card that
+// stands there; PART is whose places and ledger those behind it are, the first part's before it.
 ghost use Prim.Native.Nat.{_<_};
 use crate::places::*;
 
@@ -520,6 +553,8 @@ pub const END: u32 = 0x2000001;
 pub const MOVE: u32 = 0x2000002;
 
 pub const PART: u32 = 0x2000003;
+
+pub const FRESH: u32 = 0x2000004;
 
 pub const MR4: u32 = 0x2000100;
 

@@ -37,8 +37,11 @@ use Rattle.rules.specs.Delays.{
   latestIf,
   latestMove,
   to,
+  unnoted,
+  notedOf,
 }
 use Rattle.rules.specs.Lent.{remembered, historyAfter}
+use Rattle.card.specs.Values.{modesOf}
 use Rattle.ledger.specs.declared.Ledger.{Ledger}
 use Rattle.bank.specs.Values.{entry, once, each, preOf, preaOf, asked, shareOf}
 use Rattle.bank.specs.After.{ShareArgs, onceIf, fourAfter, latestAfter, movesAfter, busAfter, stampedAfter, banksAfter, shareAfter}
@@ -67,8 +70,8 @@ module _ (last : Option ℕ) (s : Share) (c : Command) (v : Move) (t : ℕ) (g :
   low = bank-low c (s .counter) (a .counter) (a .bank)
 
   precharges-are : (b : ℕ)
-      → (preOf (shareAfter s c v t g) b ≡ cond (precharges b c) (cond (is PRE c) (entry t 0 ∷ []) []) (preOf s b))
-      × (preaOf (shareAfter s c v t g) b ≡ cond (precharges b c) (cond (is PREA c) (entry t 0 ∷ []) []) (preaOf s b))
+      → (preOf (shareAfter s c v t g) b ≡ cond (precharges b c) (cond (is PRE c) (entry t unnoted ∷ []) []) (preOf s b))
+      × (preaOf (shareAfter s c v t g) b ≡ cond (precharges b c) (cond (is PREA c) (entry t unnoted ∷ []) []) (preaOf s b))
   unfolding preOf preaOf each once shareAfter latestAfter banksAfter stampedAfter precharges
   precharges-are b =
       let p = s .banks .pre in
@@ -84,8 +87,8 @@ module _ (last : Option ℕ) (s : Share) (c : Command) (v : Move) (t : ℕ) (g :
       (prea-below last s t w (a .stamps) (a .rising)))
 
   pub remembers : (q : Ask) (b : ℕ)
-      → asked (shareAfter s c v t g) q b ≡ historyAfter c v (s .counter) t (s .mr2) (shareOf s .history) (record { ask = q; bank = b })
-  unfolding asked shareAfter latestAfter movesAfter busAfter fourAfter banksAfter stampedAfter historyAfter remembered means latestOf laggingOf fourthOf latestIf latestMove to shareOf
+      → asked (shareAfter s c v t g) q b ≡ historyAfter c v (s .counter) t (modesOf (s .modes)) (shareOf s .history) (record { ask = q; bank = b })
+  unfolding asked shareAfter latestAfter movesAfter busAfter fourAfter banksAfter stampedAfter historyAfter remembered means latestOf laggingOf fourthOf latestIf latestMove to notedOf shareOf
   remembers lastMRW b = once-after (is MRW c) t (s .latest .mrw)
   remembers lastMRR b = once-after (is MRR c) t (s .latest .mrr)
   remembers lastREFab b = once-after (is REFAB c) t (s .latest .refab)
@@ -96,12 +99,12 @@ module _ (last : Option ℕ) (s : Share) (c : Command) (v : Move) (t : ℕ) (g :
   remembers lastACT-to b = each-after (is ACT c) k t b (s .banks .act) low (w .act)
   remembers fourthLast b = four-after (is ACT c || is REFPB c) t _
   remembers lastRD b = once-after (is RD c) t (s .bus .rd)
-  remembers lastWR b = noted-after (is WR c) t (s .mr2) (s .bus .wr)
-  remembers lastRDorMRR b = noted-after (is RD c || is MRR c) t (s .mr2) (s .bus .turn)
+  remembers lastWR b = noted-after (is WR c) t (s .modes) (s .bus .wr)
+  remembers lastRDorMRR b = noted-after (is RD c || is MRR c) t (s .modes) (s .bus .turn)
   remembers lastRD-to b = each-after (is RD c) k t b (s .banks .rd) low (w .rd)
   remembers lastRDA-to b = each-after (is RD c && apOf c) k t b (s .banks .rda) low (w .rda)
-  remembers lastWR-to b = notedEach-after (is WR c) k t (s .mr2) b (s .banks .wr) low (w .wr)
-  remembers lastWRA-to b = notedEach-after (is WR c && apOf c) k t (s .mr2) b (s .banks .wra) low (w .wra)
+  remembers lastWR-to b = notedEach-after (is WR c) k t (s .modes) b (s .banks .wr) low (w .wr)
+  remembers lastWRA-to b = notedEach-after (is WR c && apOf c) k t (s .modes) b (s .banks .wra) low (w .wra)
   remembers lastFall b = once-after (isFall v) t (s .moves .fall)
   remembers lastPowerExit b = once-after (risesFrom powerDown v) t (s .moves .«power_exit»)
   remembers lastSelfExit b = once-after (risesFrom selfRefresh v) t (s .moves .«self_exit»)

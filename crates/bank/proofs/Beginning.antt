@@ -27,8 +27,9 @@ use Rattle.rules.specs.Delays.{
   lastSelfExit,
 }
 use Rattle.rules.specs.Lent as lent
-use Rattle.card.specs.Values.{cardOf}
+use Rattle.card.specs.Values.{modesOf, cardOf}
 use Rattle.card.specs.declared.Card.{Card}
+use Rattle.card.specs.declared.Modes.{Modes}
 use Rattle.pins.specs.Values.{levelOf}
 use Rattle.ledger.specs.Values.{ledgerOf, paceOf, paceIn}
 use Rattle.bank.specs.Values.{
@@ -53,11 +54,12 @@ use Rattle.bank.specs.Values.{
   neverFour,
   idleBus,
   freshShare,
+  startOf,
   freshOf,
 }
 use Rattle.bank.proofs.Places.{same-everywhere}
 
-nothing : (m : ℕ) (a : Ask) (b : ℕ) → asked (freshShare m) a b ≡ []
+nothing : (m : Modes) (a : Ask) (b : ℕ) → asked (freshShare m) a b ≡ []
 unfolding kept once noted each notedEach four outweighed preOf preaOf asked never neverNoted neverEach neverNotedEach neverFour idleBus freshShare
 nothing m lastMRW b = refl
 nothing m lastMRR b = refl
@@ -79,14 +81,14 @@ nothing m lastFall b = refl
 nothing m lastPowerExit b = refl
 nothing m lastSelfExit b = refl
 
-pub fresh-share : (card : Card) → shareOf (freshShare (card .mr2)) ≡ lent.freshShare (cardOf card)
-unfolding shareOf lent.freshShare ledgerOf levelOf cardOf freshShare
+pub fresh-share : (card : Card) → shareOf (freshShare (startOf card)) ≡ lent.freshShare (cardOf card)
+unfolding shareOf lent.freshShare ledgerOf levelOf cardOf modesOf freshShare
 fresh-share card = λ i. record {
-  mr2 = card .mr2;
+  modes = modesOf (startOf card);
   open? = λ b. same-everywhere 8 b false i;
   counter = 0;
-  history = λ q. nothing (card .mr2) (q .ask) (q .bank) i;
-  ledger = ledgerOf (freshShare (card .mr2) .ledger);
+  history = λ q. nothing (startOf card) (q .ask) (q .bank) i;
+  ledger = ledgerOf (freshShare (startOf card) .ledger);
 }
 
 pub fresh-lent : (card : Card) → lentOf (freshOf card) ≡ lent.fresh (cardOf card)
@@ -96,7 +98,7 @@ fresh-lent card = λ i. record { card = cardOf card; last = lastOf never; pace =
     each-share : (p : ℕ) → shareIn (freshOf card) p ≡ lent.freshShare (cardOf card)
     each-share p = unfold shareIn freshOf in go (ltb p 2) (eqb p 0)
       where
-        go : (x y : Bool) → cond x (shareOf (cond y (freshShare (card .mr2)) (freshShare (card .mr2)))) (lent.freshShare (cardOf card)) ≡ lent.freshShare (cardOf card)
+        go : (x y : Bool) → cond x (shareOf (cond y (freshShare (startOf card)) (freshShare (startOf card)))) (lent.freshShare (cardOf card)) ≡ lent.freshShare (cardOf card)
         go true true = fresh-share card
         go true false = fresh-share card
         go false y = refl

@@ -1,8 +1,8 @@
 -- The record after an entry is the rules' record after it.
 use Prim.Native.Nat.{ℕ, zero, suc, _/_, _^_, _≤_}
 use mathlib.Core.Path.{_≡_, refl, ap, sym, subst, _∙_}
-use mathlib.Core.Bool.{Bool, true, false, cond, _&&_}
-use mathlib.Core.Option.{Option, some}
+use mathlib.Core.Bool.{Bool, true, false, cond, _&&_, _||_}
+use mathlib.Core.Option.{Option, none, some}
 use native.Mathlib.Omega.{arith}
 use lib.Dec.{ltb, eqb}
 use borrow.Author.Tests.{leb-true, le-ltb}
@@ -11,7 +11,7 @@ use Rattle.rules.specs.Card.{Card}
 use Rattle.rules.specs.Commands.{Command, bankOf, carries, bare}
 use Rattle.rules.specs.Whose.{Whose, isOf, whose}
 use Rattle.rules.specs.Levels.{Level, Move, Read, plain, moved, asleep, barred, clash, sensed, readPins, seen, selected, readPair, readAs}
-use Rattle.rules.specs.Past.{registerAfter}
+use Rattle.rules.specs.Past.{writesMA, registerAfter, mr2After, mr1After, modesAfter}
 use Rattle.rules.specs.Delays.{
   Ask,
   lastMRW,
@@ -43,7 +43,8 @@ use Rattle.rules.proofs.Sound.{SoundShare, sound}
 use Rattle.rules.proofs.Writable.{bounded}
 use Rattle.rules.proofs.ReadWrite.{read-fits}
 use Rattle.rules.proofs.Waking.{read-decoded}
-use Rattle.card.specs.Values.{cardOf}
+use Rattle.card.specs.Values.{mr1If, modesOf, cardOf}
+use Rattle.card.specs.declared.Modes.{Modes}
 use Rattle.pins.proofs.Rounds.{counter-on}
 use Rattle.ledger.specs.Values.{ledgerOf, paceOf}
 use Rattle.ledger.specs.declared.Ledger.{Ledger}
@@ -104,11 +105,19 @@ entry-bank card l e = go (e .body)
     go (mr4 v) = unfold readBody in rw (mr4-nop (card .sleeps) (card .paired) l v) (unfold bankOf carries bare in omega arith)
 
 -- ---- of a share
+modes-after : (c : Command) (m : Modes) → modesOf (code.modesAfter c m) ≡ modesAfter c (modesOf m)
+unfolding modesOf code.modesAfter modesAfter mr2After mr1After registerAfter mr1If
+modes-after c m = λ i. record { mr2 = mr2After c (m .mr2); mr1 = go (writesMA 1 c) i }
+  where
+    go : (b : Bool) → cond (b || m .programmed) (some (cond b (carries c .op) (m .mr1))) none ≡ cond b (some (carries c .op)) (cond (m .programmed) (some (m .mr1)) none)
+    go true = refl
+    go false = refl
+
 module _ (last : Option ℕ) (s : Share) (c : Command) (v : Move) (t : ℕ) (g : Ledger) (w : ShareWhole s) (a : ShareArgs last s t c) where
   pub share-after : shareOf (code.shareAfter s c v t g) ≡ shareAfter c v t (ledgerOf g) (shareOf s)
   unfolding shareOf code.shareAfter banksAfter shareAfter
   share-after = λ i. record {
-    mr2 = registerAfter 2 c (s .mr2);
+    modes = modes-after c (s .modes) i;
     open? = λ b. opened-after c (s .banks .opened) b (w .opened) (a .bank) i;
     counter = counter-on c v (s .counter) (a .counter) i;
     history = λ q. remembers last s c v t g w a (q .ask) (q .bank) i;
@@ -141,7 +150,7 @@ asked-same s g lastSelfExit b = refl
 pub share-ledger : (s : Share) (g : Ledger) → shareOf (code.withLedger s g) ≡ lent.withLedger (ledgerOf g) (shareOf s)
 unfolding shareOf lent.withLedger
 share-ledger s g = λ i. record {
-  mr2 = s .mr2;
+  modes = modesOf (s .modes);
   open? = shareOf s .open?;
   counter = s .counter;
   history = λ q. asked-same s g (q .ask) (q .bank) i;

@@ -10,6 +10,7 @@ use lib.Dec.{eqb, leb}
 use lib.ListN.{length, getD, set, take, replicate, length-set}
 use lib.Seq.{getD-set-same, getD-set-other}
 use Rattle.rules.specs.Commands.{Command, ACT, RD, WR, PRE, PREA, is, bankOf, apOf}
+use Rattle.rules.specs.Delays.{unnoted}
 use Rattle.rules.specs.Past.{opens, precharges, closes, openAfter}
 use Rattle.rules.proofs.Tests.{eq-cases}
 use Rattle.bank.specs.Values.{entry, four}
@@ -76,17 +77,17 @@ opened-after c l b e h =
     ∙ closing (is PREA c) (is PRE c) (is RD c || is WR c) (apOf c) (eqb k b) (getD l b false))
 
 -- ---- the four activations
-pushed-four : (t : ℕ) (x : Four) → four (pushedOn t x) ≡ entry t 0 ∷ take 3 (four x)
+pushed-four : (t : ℕ) (x : Four) → four (pushedOn t x) ≡ entry t unnoted ∷ take 3 (four x)
 unfolding four pushedOn
 pushed-four t x = go (x .count) (x .at)
   where
-    go : (n : ℕ) (l : List ℕ) → four (record { count = cond (leb 4 n) 4 (n + 1); at = shifted t l }) ≡ entry t 0 ∷ take 3 (four (record { count = n; at = l }))
+    go : (n : ℕ) (l : List ℕ) → four (record { count = cond (leb 4 n) 4 (n + 1); at = shifted t l }) ≡ entry t unnoted ∷ take 3 (four (record { count = n; at = l }))
     go zero l = refl
     go (suc zero) l = refl
     go (suc (suc zero)) l = refl
     go (suc (suc (suc zero))) l = refl
     go (suc (suc (suc (suc n)))) l = rw (le-leb 4 (suc (suc (suc (suc n)))) (omega arith))
 
-pub four-after : (now : Bool) (t : ℕ) (x : Four) → four (cond now (pushedOn t x) x) ≡ cond now (entry t 0 ∷ take 3 (four x)) (four x)
+pub four-after : (now : Bool) (t : ℕ) (x : Four) → four (cond now (pushedOn t x) x) ≡ cond now (entry t unnoted ∷ take 3 (four x)) (four x)
 four-after true t x = pushed-four t x
 four-after false t x = refl

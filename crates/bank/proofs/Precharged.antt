@@ -12,7 +12,8 @@ use lib.ListN.{length, getD, List·getD-eq-default}
 use Rattle.rules.specs.Lists.{all}
 use Rattle.rules.specs.Folds.{Found}
 use Rattle.rules.specs.Commands.{banks}
-use Rattle.rules.specs.Delays.{lastPRE-to}
+use Rattle.rules.specs.Registers.{Modes}
+use Rattle.rules.specs.Delays.{lastPRE-to, unnoted}
 use Rattle.rules.specs.Lent.{History, asks, allStored, notAbove, aboveLast, stampsGood}
 use Rattle.rules.proofs.Onward.{at-each}
 use Rattle.rules.proofs.Tests.{lt-cases, both-true}
@@ -22,15 +23,15 @@ use Rattle.bank.proofs.Stored.{all-onward}
 use Rattle.bank.proofs.Sizes.{ShareWhole}
 
 -- this one, unless the other came later
-abbrev pub shown : (seen : Bool) (at : ℕ) (other : Bool) (later : ℕ) → List (Found ℕ)
-shown s p r u = cond (outweighed s r p u) [] (kept s p 0)
+abbrev pub shown : (seen : Bool) (at : ℕ) (other : Bool) (later : ℕ) → List (Found Modes)
+shown s p r u = cond (outweighed s r p u) [] (kept s p unnoted)
 
 false-true : {A : Type 0} → false ≡ true → A
 false-true e = absurd (let z : _≡_ {A = ℕ} 0 1 = cc in omega arith)
 
 -- the first comes now where x holds, the other where y holds
 shown-after : (t p u : ℕ) (x y s r : Bool) → (x && y) ≡ false → (s ≡ true → p < t) → (r ≡ true → u < t)
-    → shown (cond x true s) (cond x t p) (cond y true r) (cond y t u) ≡ cond (x || y) (cond x (entry t 0 ∷ []) []) (shown s p r u)
+    → shown (cond x true s) (cond x t p) (cond y true r) (cond y t u) ≡ cond (x || y) (cond x (entry t unnoted ∷ []) []) (shown s p r u)
 unfolding outweighed kept
 shown-after t p u false false s r n f g = refl
 shown-after t p u true false s false n f g = refl
@@ -41,8 +42,8 @@ shown-after t p u true true s r n f g = false-true (sym n)
 
 -- PRE-all comes where z holds, PRE where q holds, of the bank where e holds
 pub both-after : (t p u : ℕ) (z q e s r : Bool) → (z && q) ≡ false → (s ≡ true → p < t) → (r ≡ true → u < t)
-    → (shown (cond (q && e) true s) (cond (q && e) t p) (cond z true r) (cond z t u) ≡ cond (z || (q && e)) (cond q (entry t 0 ∷ []) []) (shown s p r u))
-    × (shown (cond z true r) (cond z t u) (cond (q && e) true s) (cond (q && e) t p) ≡ cond (z || (q && e)) (cond z (entry t 0 ∷ []) []) (shown r u s p))
+    → (shown (cond (q && e) true s) (cond (q && e) t p) (cond z true r) (cond z t u) ≡ cond (z || (q && e)) (cond q (entry t unnoted ∷ []) []) (shown s p r u))
+    × (shown (cond z true r) (cond z t u) (cond (q && e) true s) (cond (q && e) t p) ≡ cond (z || (q && e)) (cond z (entry t unnoted ∷ []) []) (shown r u s p))
 both-after t p u false false e s r n f g = (refl, refl)
 both-after t p u false true false s r n f g = (refl, refl)
 both-after t p u false true true s r n f g = (shown-after t p u true false s r refl f g, shown-after t u p false true r s refl g f)
@@ -62,12 +63,12 @@ rising-stamp none s t e f = false-true e
 rising-stamp (some l) s t e f = let a = leb-true s l e in let b = ltb-true l t f in omega arith
 
 module _ (P : ℕ → Bool) (t : ℕ) (below : (s : ℕ) → P s ≡ true → s < t) where
-  first : (s : ℕ) → all (λ (f : Found ℕ). P (f .stamp)) (entry s 0 ∷ []) ≡ true → s < t
+  first : (s : ℕ) → all (λ (f : Found Modes). P (f .stamp)) (entry s unnoted ∷ []) ≡ true → s < t
   unfolding all
   first s e = below s (both-true (P s) true e .0)
 
-  both-below : (s r : Bool) (p u : ℕ) → all (λ (f : Found ℕ). P (f .stamp)) (shown s p r u) ≡ true
-      → all (λ (f : Found ℕ). P (f .stamp)) (shown r u s p) ≡ true → (s ≡ true → p < t) × (r ≡ true → u < t)
+  both-below : (s r : Bool) (p u : ℕ) → all (λ (f : Found Modes). P (f .stamp)) (shown s p r u) ≡ true
+      → all (λ (f : Found Modes). P (f .stamp)) (shown r u s p) ≡ true → (s ≡ true → p < t) × (r ≡ true → u < t)
   unfolding outweighed kept
   both-below false false p u e f = (λ x. false-true x, λ x. false-true x)
   both-below true false p u e f = (λ x. first p e, λ x. false-true x)
@@ -84,10 +85,10 @@ module _ (P : ℕ → Bool) (t : ℕ) (below : (s : ℕ) → P s ≡ true → s 
 
 module _ (last : Option ℕ) (x : Share) (t : ℕ) (w : ShareWhole x) (good : stampsGood last (shareOf x) ≡ true) (rising : aboveLast last t ≡ true) where
   stored : (i : ℕ) → i < length asks → (b : ℕ) → b < 8
-      → all (λ (f : Found ℕ). notAbove last (f .stamp)) (shareOf x .history (record { ask = getD asks i lastPRE-to; bank = b })) ≡ true
+      → all (λ (f : Found Modes). notAbove last (f .stamp)) (shareOf x .history (record { ask = getD asks i lastPRE-to; bank = b })) ≡ true
   unfolding stampsGood allStored
   stored i hi b hb =
-      let P : Found ℕ → Bool = λ f. notAbove last (f .stamp) in
+      let P : Found Modes → Bool = λ f. notAbove last (f .stamp) in
       let h : History = shareOf x .history in
       let inner = all-at (λ a. all (λ k. all P (h (record { ask = a; bank = k }))) banks) asks i lastPRE-to hi good in
       at-each (λ k. all P (h (record { ask = getD asks i lastPRE-to; bank = k }))) 0 8 (sym (all-onward _) ∙ inner) b (omega arith) (omega arith)

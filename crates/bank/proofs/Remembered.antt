@@ -10,8 +10,11 @@ use lib.Dec.{eqb}
 use lib.ListN.{getD}
 use Rattle.rules.specs.Commands.{Command, code, kindOf, REFPB, PRE, PREA, is, bankOf}
 use Rattle.rules.specs.Past.{bankAt}
+use Rattle.rules.specs.Delays.{unnoted}
 use Rattle.rules.proofs.Tests.{eq-cases}
-use Rattle.bank.specs.Values.{entry, kept, once, noted, each, notedEach}
+use Rattle.card.specs.Values.{modesOf}
+use Rattle.card.specs.declared.Modes.{Modes}
+use Rattle.bank.specs.Values.{entry, kept, once, noted, each, noModes, notedEach}
 use Rattle.bank.specs.After.{onceIf, notedIf, eachIf, notedEachIf}
 use Rattle.bank.specs.declared.Once.{Once}
 use Rattle.bank.specs.declared.Noted.{Noted}
@@ -20,23 +23,23 @@ use Rattle.bank.specs.declared.NotedEach.{NotedEach}
 use Rattle.bank.proofs.Sizes.{EachWhole, NotedWhole}
 use Rattle.bank.proofs.Places.{set-read}
 
-pub once-after : (now : Bool) (t : ℕ) (x : Once) → once (onceIf now t x) ≡ cond now (entry t 0 ∷ []) (once x)
+pub once-after : (now : Bool) (t : ℕ) (x : Once) → once (onceIf now t x) ≡ cond now (entry t unnoted ∷ []) (once x)
 unfolding once onceIf kept
 once-after true t x = refl
 once-after false t x = refl
 
-pub noted-after : (now : Bool) (t m : ℕ) (x : Noted) → noted (notedIf now t m x) ≡ cond now (entry t m ∷ []) (noted x)
+pub noted-after : (now : Bool) (t : ℕ) (m : Modes) (x : Noted) → noted (notedIf now t m x) ≡ cond now (entry t (modesOf m) ∷ []) (noted x)
 unfolding noted notedIf kept
 noted-after true t m x = refl
 noted-after false t m x = refl
 
 -- ---- of each bank: `now` is where an entry of the kind asked for comes
-kept-if : (e s : Bool) (t a : ℕ) → kept (cond e true s) (cond e t a) 0 ≡ cond e (entry t 0 ∷ []) (kept s a 0)
+kept-if : (e s : Bool) (t a : ℕ) → kept (cond e true s) (cond e t a) unnoted ≡ cond e (entry t unnoted ∷ []) (kept s a unnoted)
 unfolding kept
 kept-if true s t a = refl
 kept-if false s t a = refl
 
-noted-if : (e s : Bool) (t a m n : ℕ) → kept (cond e true s) (cond e t a) (cond e m n) ≡ cond e (entry t m ∷ []) (kept s a n)
+noted-if : (e s : Bool) (t a : ℕ) (m n : Modes) → kept (cond e true s) (cond e t a) (modesOf (cond e m n)) ≡ cond e (entry t (modesOf m) ∷ []) (kept s a (modesOf n))
 unfolding kept
 noted-if true s t a m n = refl
 noted-if false s t a m n = refl
@@ -54,25 +57,25 @@ each-at true k t b x h w = let e = w .at in set-read (x .at) k b t 0 (omega arit
 each-at false k t b x h w = refl
 
 pub each-after : (now : Bool) (k t b : ℕ) (x : Each) → k ≤ 7 → EachWhole x
-    → each (eachIf now k t x) b ≡ cond (now && eqb k b) (entry t 0 ∷ []) (each x b)
+    → each (eachIf now k t x) b ≡ cond (now && eqb k b) (entry t unnoted ∷ []) (each x b)
 unfolding each
 each-after now k t b x h w =
     rw (each-seen now k t b x h w, each-at now k t b x h w) (kept-if (now && eqb k b) (getD (x .seen) b false) t (getD (x .at) b 0))
 
-pub notedEach-after : (now : Bool) (k t m b : ℕ) (x : NotedEach) → k ≤ 7 → NotedWhole x
-    → notedEach (notedEachIf now k t m x) b ≡ cond (now && eqb k b) (entry t m ∷ []) (notedEach x b)
+pub notedEach-after : (now : Bool) (k t : ℕ) (m : Modes) (b : ℕ) (x : NotedEach) → k ≤ 7 → NotedWhole x
+    → notedEach (notedEachIf now k t m x) b ≡ cond (now && eqb k b) (entry t (modesOf m) ∷ []) (notedEach x b)
 unfolding notedEach notedEachIf
 notedEach-after false k t m b x h w = refl
 notedEach-after true k t m b x h w =
     let e = w .seen in
     let f = w .at in
-    let g = w .mr2 in
+    let g = w .modes in
     rw (
       set-read (x .seen) k b true false (omega arith),
       set-read (x .at) k b t 0 (omega arith),
-      set-read (x .mr2) k b m 0 (omega arith),
+      set-read (x .modes) k b m noModes (omega arith),
     )
-    (noted-if (eqb k b) (getD (x .seen) b false) t (getD (x .at) b 0) m (getD (x .mr2) b 0))
+    (noted-if (eqb k b) (getD (x .seen) b false) t (getD (x .at) b 0) m (getD (x .modes) b noModes))
 
 -- ---- tests of commands
 pub one-precharge : (c : Command) → (is PREA c && is PRE c) ≡ false

@@ -5,7 +5,7 @@ use mathlib.Core.Bool.{Bool, true, false}
 use Rattle.rules.specs.Commands.{nop, is, code, kindOf, carries, bare}
 use Rattle.rules.specs.Levels.{stays, isFall, risesFrom}
 use Rattle.rules.specs.Whose.{Whose, isOf}
-use Rattle.rules.specs.Past.{registerAfter}
+use Rattle.rules.specs.Past.{writesMA, registerAfter, mr2After}
 use Rattle.pins.specs.Counter.{counterOn}
 use Rattle.ledger.specs.declared.Ledger.{Ledger}
 use Rattle.ledger.specs.declared.Pace.{Pace}
@@ -13,6 +13,7 @@ use Rattle.bank.specs.declared.Share.{Share}
 use Rattle.bank.specs.declared.Ledgers.{Ledgers}
 use Rattle.bank.specs.declared.Record.{Record}
 use Rattle.bank.specs.After.{
+  modesAfter,
   onceAt,
   onceIf,
   notedIf,
@@ -33,7 +34,7 @@ use Rattle.bank.specs.After.{
 }
 
 share-nop : (own : Bool) (s : Share) (t : ℕ) (g : Ledger) → shareTaken own s nop stays t g ≡ withLedger s g
-unfolding shareTaken shareAfter registerAfter counterOn latestAfter movesAfter busAfter fourAfter banksAfter stampedAfter openedAfter shuts onceIf notedIf eachIf notedEachIf isFall risesFrom is code kindOf carries bare
+unfolding shareTaken shareAfter modesAfter mr2After registerAfter writesMA counterOn latestAfter movesAfter busAfter fourAfter banksAfter stampedAfter openedAfter shuts onceIf notedIf eachIf notedEachIf isFall risesFrom is code kindOf carries bare
 share-nop true s t g = refl
 share-nop false s t g = refl
 

@@ -12,7 +12,7 @@ use lib.Seq.{take-nil}
 use borrow.Author.Tests.{lt-ltb, le-ltb, le-leb}
 use Rattle.rules.specs.Lists.{all}
 use Rattle.rules.specs.Commands.{banks}
-use Rattle.rules.specs.Registers.{mr2Good}
+use Rattle.rules.specs.Registers.{mr2Good, Modes}
 use Rattle.rules.specs.Folds.{Found}
 use Rattle.rules.specs.Delays.{
   Ask,
@@ -41,11 +41,12 @@ use Rattle.rules.specs.Delays.{
   latestIf,
   latestMove,
   means,
+  unnoted,
 }
 use Rattle.rules.specs.Lent.{asks, allStored, mr2sGood, notAbove, stampsGood}
 use Rattle.rules.proofs.Onward.{onward}
 use Rattle.rules.proofs.Tests.{lt-cases, le-cases}
-use Rattle.card.specs.Values.{cardOf}
+use Rattle.card.specs.Values.{modesOf, cardOf}
 use Rattle.card.specs.declared.Card.{Card}
 use Rattle.bank.specs.declared.Once.{Once}
 use Rattle.bank.specs.declared.Noted.{Noted}
@@ -53,7 +54,7 @@ use Rattle.bank.specs.declared.Each.{Each}
 use Rattle.bank.specs.declared.NotedEach.{NotedEach}
 use Rattle.bank.specs.declared.Four.{Four}
 use Rattle.bank.specs.declared.Share.{Share}
-use Rattle.bank.specs.Values.{entry, kept, once, noted, each, notedEach, place, four, outweighed, preOf, preaOf, asked, lastOf, shareOf}
+use Rattle.bank.specs.Values.{entry, kept, once, noted, each, noModes, notedEach, place, four, outweighed, preOf, preaOf, asked, lastOf, shareOf}
 use Rattle.bank.specs.Clauses.{keptBy, eachBy, fourBy, latestBy, movesBy, rowsBy, busBy, dataBy, noteGood, notesGood}
 
 -- ---- conjunctions
@@ -85,25 +86,25 @@ module _ {A : Type 0} where
   all-both p q (x ∷ l) = and-swap (p x) (all p l) (q x) (all q l) ∙ ap (λ z. (p x && q x) && z) (all-both p q l)
 
 -- ---- what is kept
-all-kept : (q : Found ℕ → Bool) (s : Bool) (t n : ℕ) → all q (kept s t n) ≡ cond s (q (entry t n)) true
+all-kept : (q : Found Modes → Bool) (s : Bool) (t : ℕ) (n : Modes) → all q (kept s t n) ≡ cond s (q (entry t n)) true
 unfolding all kept
 all-kept q true t n = and-true _
 all-kept q false t n = refl
 
-kept-once : (q : Found ℕ → Bool) (s : Bool) (t n : ℕ) → all (λ b. all q (kept s t n)) banks ≡ cond s (q (entry t n)) true
+kept-once : (q : Found Modes → Bool) (s : Bool) (t : ℕ) (n : Modes) → all (λ b. all q (kept s t n)) banks ≡ cond s (q (entry t n)) true
 kept-once q s t n = all-const _ ∙ all-kept q s t n
 
-kept-each : (q : Found ℕ → Bool) (s : ℕ → Bool) (t n : ℕ → ℕ) →
+kept-each : (q : Found Modes → Bool) (s : ℕ → Bool) (t : ℕ → ℕ) (n : ℕ → Modes) →
     all (λ b. all q (kept (s b) (t b) (n b))) banks ≡ all (λ b. cond (s b) (q (entry (t b) (n b))) true) banks
 kept-each q s t n = all-same _ _ (λ b. all-kept q (s b) (t b) (n b)) banks
 
 -- a test that passes all
-passes : (l : List (Found ℕ)) → all (λ f. true) l ≡ true
+passes : (l : List (Found Modes)) → all (λ f. true) l ≡ true
 unfolding all
 passes [] = refl
 passes (x ∷ l) = passes l
 
-none-tested : (h : ℕ → List (Found ℕ)) → all (λ b. all (λ f. true) (h b)) banks ≡ true
+none-tested : (h : ℕ → List (Found Modes)) → all (λ b. all (λ f. true) (h b)) banks ≡ true
 none-tested h = all-same _ (λ b. true) (λ b. passes (h b)) banks ∙ all-const true
 
 all-asks : (p : Ask → Bool) → all p asks ≡ (
@@ -119,7 +120,7 @@ all-asks p = simp (and-assoc, and-true) refl
 
 -- ---- stamps
 module _ (last : Once) where
-  abbrev below : Found ℕ → Bool
+  abbrev below : Found Modes → Bool
   below f = notAbove (lastOf last) (f .stamp)
 
   pub not-above-last : (t : ℕ) → (last .seen && leb t (last .at)) ≡ notAbove (lastOf last) t
@@ -130,11 +131,11 @@ module _ (last : Once) where
       go true = refl
       go false = refl
 
-  once-by : (s : Bool) (t n : ℕ) → all (λ b. all below (kept s t n)) banks ≡ keptBy last s t
+  once-by : (s : Bool) (t : ℕ) (n : Modes) → all (λ b. all below (kept s t n)) banks ≡ keptBy last s t
   unfolding keptBy
   once-by s t n = kept-once below s t n
 
-  each-by : (s : List Bool) (t : List ℕ) (n : ℕ → ℕ) →
+  each-by : (s : List Bool) (t : List ℕ) (n : ℕ → Modes) →
       all (λ b. all below (kept (getD s b false) (getD t b 0) (n b))) banks ≡ eachBy last s t
   unfolding keptBy eachBy
   each-by s t n = kept-each below (λ b. getD s b false) (λ b. getD t b 0) n
@@ -171,7 +172,7 @@ module _ (last : Once) where
 
   -- two that may outweigh each other: what is outweighed is below the other
   either-way : (s r : Bool) (t u : ℕ) →
-      (all below (cond (outweighed s r t u) [] (kept s t 0)) && all below (cond (outweighed r s u t) [] (kept r u 0))) ≡ (keptBy last s t && keptBy last r u)
+      (all below (cond (outweighed s r t u) [] (kept s t unnoted)) && all below (cond (outweighed r s u t) [] (kept r u unnoted))) ≡ (keptBy last s t && keptBy last r u)
   unfolding outweighed all kept keptBy
   either-way false false t u = refl
   either-way false true t u = and-true _
@@ -183,7 +184,7 @@ module _ (last : Once) where
       (lt-cases t u)
     where
       other : u ≤ t →
-          ((notAbove (lastOf last) t && true) && all below (cond (ltb u t) [] (kept true u 0))) ≡ (notAbove (lastOf last) t && notAbove (lastOf last) u)
+          ((notAbove (lastOf last) t && true) && all below (cond (ltb u t) [] (kept true u unnoted))) ≡ (notAbove (lastOf last) t && notAbove (lastOf last) u)
       other h = ⊎-elim
           (λ (q : (u < t) × (ltb u t ≡ true)). rw (q .1) (and-true _ ∙ and-true _ ∙ sym (earlier-tells t u h)))
           (λ (q : (t ≤ u) × (ltb u t ≡ false)). rw (q .1, and-true (notAbove (lastOf last) t), and-true (notAbove (lastOf last) u)))
@@ -217,50 +218,50 @@ module _ (z : Once) (s : Share) where
       let v = s .moves in
       all-asks (λ a. all (λ b. all (below z) (asked s a b)) banks) ∙
       (λ i.
-      (once-by z (l .mrw .seen) (l .mrw .at) 0 i &&
-      once-by z (l .mrr .seen) (l .mrr .at) 0 i &&
-      once-by z (l .refab .seen) (l .refab .at) 0 i &&
-      once-by z (l .refpb .seen) (l .refpb .at) 0 i) &&
-      (each-by z (k .refpb .seen) (k .refpb .at) (λ b. 0) i && pre-and-prea z (k .pre) (l .prea) i && each-by z (k .act .seen) (k .act .at) (λ b. 0) i) &&
+      (once-by z (l .mrw .seen) (l .mrw .at) unnoted i &&
+      once-by z (l .mrr .seen) (l .mrr .at) unnoted i &&
+      once-by z (l .refab .seen) (l .refab .at) unnoted i &&
+      once-by z (l .refpb .seen) (l .refpb .at) unnoted i) &&
+      (each-by z (k .refpb .seen) (k .refpb .at) (λ b. unnoted) i && pre-and-prea z (k .pre) (l .prea) i && each-by z (k .act .seen) (k .act .at) (λ b. unnoted) i) &&
       all (λ b. all (below z) (asked s fourthLast b)) banks &&
-      (once-by z (u .rd .seen) (u .rd .at) 0 i &&
-      once-by z (u .wr .seen) (u .wr .at) (u .wr .mr2) i &&
-      once-by z (u .turn .seen) (u .turn .at) (u .turn .mr2) i) &&
-      (each-by z (k .rd .seen) (k .rd .at) (λ b. 0) i &&
-      each-by z (k .rda .seen) (k .rda .at) (λ b. 0) i &&
-      each-by z (k .wr .seen) (k .wr .at) (λ b. getD (k .wr .mr2) b 0) i &&
-      each-by z (k .wra .seen) (k .wra .at) (λ b. getD (k .wra .mr2) b 0) i) &&
-      (once-by z (v .fall .seen) (v .fall .at) 0 i &&
-      once-by z (v .«power_exit» .seen) (v .«power_exit» .at) 0 i &&
-      once-by z (v .«self_exit» .seen) (v .«self_exit» .at) 0 i))
+      (once-by z (u .rd .seen) (u .rd .at) unnoted i &&
+      once-by z (u .wr .seen) (u .wr .at) (modesOf (u .wr .modes)) i &&
+      once-by z (u .turn .seen) (u .turn .at) (modesOf (u .turn .modes)) i) &&
+      (each-by z (k .rd .seen) (k .rd .at) (λ b. unnoted) i &&
+      each-by z (k .rda .seen) (k .rda .at) (λ b. unnoted) i &&
+      each-by z (k .wr .seen) (k .wr .at) (λ b. modesOf (getD (k .wr .modes) b noModes)) i &&
+      each-by z (k .wra .seen) (k .wra .at) (λ b. modesOf (getD (k .wra .modes) b noModes)) i) &&
+      (once-by z (v .fall .seen) (v .fall .at) unnoted i &&
+      once-by z (v .«power_exit» .seen) (v .«power_exit» .at) unnoted i &&
+      once-by z (v .«self_exit» .seen) (v .«self_exit» .at) unnoted i))
 
 -- ---- MR2 values
 module _ (card : Card) (s : Share) where
   abbrev period : ℕ
   period = card .period
 
-  abbrev fits : Found ℕ → Bool
-  fits f = mr2Good period (f .noted)
+  abbrev fits : Found Modes → Bool
+  fits f = mr2Good period (f .noted .mr2)
 
   abbrev lagging : Ask → Bool
   lagging a = all (λ b. all (λ f. cond (means a .lags) (fits f) true) (asked s a b)) banks
 
-  noted-fits : (x : Noted) → all (λ b. all fits (noted x)) banks ≡ noteGood period (x .seen) (x .mr2)
-  unfolding noted noteGood
-  noted-fits x = kept-once fits (x .seen) (x .at) (x .mr2)
+  noted-fits : (x : Noted) → all (λ b. all fits (noted x)) banks ≡ noteGood period (x .seen) (x .modes .mr2)
+  unfolding noted noteGood modesOf
+  noted-fits x = kept-once fits (x .seen) (x .at) (modesOf (x .modes))
 
-  each-fits : (x : NotedEach) → all (λ b. all fits (notedEach x b)) banks ≡ notesGood period (x .seen) (x .mr2)
-  unfolding notedEach noteGood notesGood
-  each-fits x = kept-each fits (λ b. getD (x .seen) b false) (λ b. getD (x .at) b 0) (λ b. getD (x .mr2) b 0)
+  each-fits : (x : NotedEach) → all (λ b. all fits (notedEach x b)) banks ≡ notesGood period (x .seen) (x .modes)
+  unfolding notedEach noteGood notesGood modesOf
+  each-fits x = kept-each fits (λ b. getD (x .seen) b false) (λ b. getD (x .at) b 0) (λ b. modesOf (getD (x .modes) b noModes))
 
   pub mr2s-are : mr2sGood (cardOf card) (shareOf s) ≡ (
-      mr2Good period (s .mr2) &&
-      (noteGood period (s .bus .wr .seen) (s .bus .wr .mr2) && noteGood period (s .bus .turn .seen) (s .bus .turn .mr2)) &&
-      (notesGood period (s .banks .wr .seen) (s .banks .wr .mr2) && notesGood period (s .banks .wra .seen) (s .banks .wra .mr2))
+      mr2Good period (s .modes .mr2) &&
+      (noteGood period (s .bus .wr .seen) (s .bus .wr .modes .mr2) && noteGood period (s .bus .turn .seen) (s .bus .turn .modes .mr2)) &&
+      (notesGood period (s .banks .wr .seen) (s .banks .wr .modes) && notesGood period (s .banks .wra .seen) (s .banks .wra .modes))
       )
-  unfolding mr2sGood allStored shareOf cardOf means latestOf laggingOf fourthOf latestIf latestMove asked
+  unfolding mr2sGood allStored shareOf cardOf modesOf means latestOf laggingOf fourthOf latestIf latestMove asked
   mr2s-are =
-      ap (λ z. mr2Good period (s .mr2) && z)
+      ap (λ z. mr2Good period (s .modes .mr2) && z)
       (all-asks lagging ∙
       (λ i.
       (none-tested (asked s lastMRW) i &&
@@ -278,4 +279,4 @@ module _ (card : Card) (s : Share) where
       each-fits (s .banks .wra) i) &&
       (none-tested (asked s lastFall) i && none-tested (asked s lastPowerExit) i && none-tested (asked s lastSelfExit) i)) ∙
       and-true _) ∙
-      sym (and-assoc (mr2Good period (s .mr2)) _ _)
+      sym (and-assoc (mr2Good period (s .modes .mr2)) _ _)

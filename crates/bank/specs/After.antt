@@ -10,8 +10,9 @@ use Rattle.rules.specs.Commands as rules
 use Rattle.rules.specs.Commands.{MRW, MRR, REFPB, REFAB, ACT, RD, WR, PRE, PREA, is, bankOf, apOf}
 use Rattle.rules.specs.Whose.{Whose, isOf}
 use Rattle.rules.specs.Levels.{powerDown, selfRefresh, Move, isFall, risesFrom}
-use Rattle.rules.specs.Past.{registerAfter, bankAt}
+use Rattle.rules.specs.Past.{writesMA, registerAfter, mr2After, bankAt}
 use Rattle.rules.specs.Lent as lent
+use Rattle.card.specs.declared.Modes.{Modes}
 use Rattle.pins.specs.Counter.{counterOn}
 use Rattle.ledger.specs.declared.Ledger.{Ledger}
 use Rattle.ledger.specs.declared.Pace.{Pace}
@@ -54,10 +55,10 @@ onceAt t = record { seen = true; at = t }
 unfoldable pub onceIf : Bool → ℕ → Once → Once
 onceIf now t x = cond now (onceAt t) x
 
-abbrev pub notedAt : (t mr2 : ℕ) → Noted
-notedAt t m = record { seen = true; at = t; mr2 = m }
+abbrev pub notedAt : (t : ℕ) → Modes → Noted
+notedAt t m = record { seen = true; at = t; modes = m }
 
-unfoldable pub notedIf : Bool → (t mr2 : ℕ) → Noted → Noted
+unfoldable pub notedIf : Bool → (t : ℕ) → Modes → Noted → Noted
 notedIf now t m x = cond now (notedAt t m) x
 
 -- a place that the list does not have changes nothing
@@ -67,10 +68,10 @@ putEach k t x = record { seen = set (x .seen) k true; at = set (x .at) k t }
 unfoldable pub eachIf : Bool → (bank t : ℕ) → Each → Each
 eachIf now k t x = cond now (putEach k t x) x
 
-abbrev pub putNoted : (bank t mr2 : ℕ) → NotedEach → NotedEach
-putNoted k t m x = record { seen = set (x .seen) k true; at = set (x .at) k t; mr2 = set (x .mr2) k m }
+abbrev pub putNoted : (bank t : ℕ) → Modes → NotedEach → NotedEach
+putNoted k t m x = record { seen = set (x .seen) k true; at = set (x .at) k t; modes = set (x .modes) k m }
 
-unfoldable pub notedEachIf : Bool → (bank t mr2 : ℕ) → NotedEach → NotedEach
+unfoldable pub notedEachIf : Bool → (bank t : ℕ) → Modes → NotedEach → NotedEach
 notedEachIf now k t m x = cond now (putNoted k t m x) x
 
 abbrev pub shifted : ℕ → List ℕ → List ℕ
@@ -80,6 +81,9 @@ unfoldable pub pushedOn : ℕ → Four → Four
 pushedOn t x = record { count = cond (leb 4 (x .count)) 4 (x .count + 1); at = shifted t (x .at) }
 
 -- ---- the parts of the record
+unfoldable pub modesAfter : rules.Command → Modes → Modes
+modesAfter c m = record { mr2 = mr2After c (m .mr2); programmed = writesMA 1 c || m .programmed; mr1 = registerAfter (λ v. v) 1 c (m .mr1) }
+
 unfoldable pub fourAfter : rules.Command → (stamp : ℕ) → Four → Four
 fourAfter c t x = cond (is ACT c || is REFPB c) (pushedOn t x) x
 
@@ -99,7 +103,7 @@ movesAfter v t x = record {
   «self_exit» = onceIf (risesFrom selfRefresh v) t (x .«self_exit»);
 }
 
-unfoldable pub busAfter : rules.Command → (stamp mr2 : ℕ) → Bus → Bus
+unfoldable pub busAfter : rules.Command → (stamp : ℕ) → Modes → Bus → Bus
 busAfter c t m x = record {
   rd = onceIf (is RD c) t (x .rd);
   wr = notedIf (is WR c) t m (x .wr);
@@ -128,7 +132,7 @@ readOn k ap t x = record {
   wra = x .wra;
 }
 
-unfoldable pub writtenOn : (bank : ℕ) → (ap : Bool) → (stamp mr2 : ℕ) → Banks → Banks
+unfoldable pub writtenOn : (bank : ℕ) → (ap : Bool) → (stamp : ℕ) → Modes → Banks → Banks
 writtenOn k ap t m x = record {
   opened = x .opened;
   refpb = x .refpb;
@@ -141,7 +145,7 @@ writtenOn k ap t m x = record {
 }
 
 -- the stamps of each bank alone
-unfoldable pub stampedAfter : rules.Command → (counter stamp mr2 : ℕ) → Banks → Banks
+unfoldable pub stampedAfter : rules.Command → (counter stamp : ℕ) → Modes → Banks → Banks
 stampedAfter c n t m x =
     let k = bankAt c n in
     record {
@@ -155,7 +159,7 @@ stampedAfter c n t m x =
       wra = notedEachIf (is WR c && apOf c) k t m (x .wra);
     }
 
-unfoldable pub banksAfter : rules.Command → (counter stamp mr2 : ℕ) → Banks → Banks
+unfoldable pub banksAfter : rules.Command → (counter stamp : ℕ) → Modes → Banks → Banks
 banksAfter c n t m x =
     let y = stampedAfter c n t m x in
     record {
@@ -171,19 +175,19 @@ banksAfter c n t m x =
 
 unfoldable pub shareAfter : Share → rules.Command → Move → (stamp : ℕ) → Ledger → Share
 shareAfter s c v t g = record {
-  mr2 = registerAfter 2 c (s .mr2);
+  modes = modesAfter c (s .modes);
   counter = counterOn c v (s .counter);
   latest = latestAfter c t (s .latest);
   moves = movesAfter v t (s .moves);
-  bus = busAfter c t (s .mr2) (s .bus);
+  bus = busAfter c t (s .modes) (s .bus);
   four = fourAfter c t (s .four);
-  banks = banksAfter c (s .counter) t (s .mr2) (s .banks);
+  banks = banksAfter c (s .counter) t (s .modes) (s .banks);
   ledger = g;
 }
 
 abbrev pub withLedger : Share → Ledger → Share
 withLedger s g = record {
-  mr2 = s .mr2;
+  modes = s .modes;
   counter = s .counter;
   latest = s .latest;
   moves = s .moves;

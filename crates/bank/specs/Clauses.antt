@@ -7,13 +7,14 @@ use Rattle.rules.specs.Lists.{all}
 use Rattle.rules.specs.Commands.{banks}
 use Rattle.rules.specs.Registers.{mr2Good}
 use Rattle.rules.specs.Lent.{notAbove}
+use Rattle.card.specs.declared.Modes.{Modes}
 use Rattle.bank.specs.declared.Once.{Once}
 use Rattle.bank.specs.declared.Four.{Four}
 use Rattle.bank.specs.declared.Latest.{Latest}
 use Rattle.bank.specs.declared.Moves.{Moves}
 use Rattle.bank.specs.declared.Bus.{Bus}
 use Rattle.bank.specs.declared.Banks.{Banks}
-use Rattle.bank.specs.Values.{lastOf, four}
+use Rattle.bank.specs.Values.{noModes, lastOf, four}
 
 -- a stamp, if it is there, is not above the last entry's
 unfoldable pub keptBy : Once → Bool → ℕ → Bool
@@ -58,5 +59,5 @@ dataBy last x =
 unfoldable pub noteGood : (period : ℕ) → Bool → ℕ → Bool
 noteGood p s n = cond s (mr2Good p n) true
 
-unfoldable pub notesGood : (period : ℕ) → List Bool → List ℕ → Bool
-notesGood p s n = all (λ b. noteGood p (getD s b false) (getD n b 0)) banks
+unfoldable pub notesGood : (period : ℕ) → List Bool → List Modes → Bool
+notesGood p s m = all (λ b. noteGood p (getD s b false) (getD m b noModes .mr2)) banks

@@ -5,6 +5,7 @@ use mathlib.Core.List.{List, [], _∷_}
 use mathlib.Core.Option.{Option, none, some}
 use lib.Dec.{ltb, eqb}
 use lib.ListN.{getD, take, replicate}
+use Rattle.rules.specs.Registers as registers
 use Rattle.rules.specs.Whose.{other}
 use Rattle.rules.specs.Folds.{Found}
 use Rattle.rules.specs.Delays.{
@@ -28,11 +29,13 @@ use Rattle.rules.specs.Delays.{
   lastFall,
   lastPowerExit,
   lastSelfExit,
+  unnoted,
   Answers,
 }
 use Rattle.rules.specs.Lent as lent
-use Rattle.card.specs.Values.{cardOf}
+use Rattle.card.specs.Values.{modesOf, cardOf}
 use Rattle.card.specs.declared.Card.{Card}
+use Rattle.card.specs.declared.Modes.{Modes}
 use Rattle.pins.specs.declared.Level.the-variants.{Awake}
 use Rattle.ledger.specs.Values.{ledgerOf, paceOf, paceIn}
 use Rattle.bank.specs.declared.Once.{Once}
@@ -44,49 +47,53 @@ use Rattle.bank.specs.declared.Bus.{Bus}
 use Rattle.bank.specs.declared.Share.{Share}
 use Rattle.bank.specs.declared.Record.{Record}
 
--- an entry that is remembered, if it is there; 0 is noted where no rule goes by MR2
-abbrev pub entry : (at noted : ℕ) → Found ℕ
+-- an entry that is remembered, if it is there, with what is noted of it
+abbrev pub entry : (at : ℕ) → registers.Modes → Found registers.Modes
 entry t n = record { stamp = t; noted = n }
 
-unfoldable pub kept : (seen : Bool) → (at noted : ℕ) → List (Found ℕ)
+unfoldable pub kept : (seen : Bool) → (at : ℕ) → registers.Modes → List (Found registers.Modes)
 kept s t n = cond s (entry t n ∷ []) []
 
-unfoldable pub once : Once → List (Found ℕ)
-once x = kept (x .seen) (x .at) 0
+unfoldable pub once : Once → List (Found registers.Modes)
+once x = kept (x .seen) (x .at) unnoted
 
-unfoldable pub noted : Noted → List (Found ℕ)
-noted x = kept (x .seen) (x .at) (x .mr2)
+unfoldable pub noted : Noted → List (Found registers.Modes)
+noted x = kept (x .seen) (x .at) (modesOf (x .modes))
 
-unfoldable pub each : Each → ℕ → List (Found ℕ)
-each x b = kept (getD (x .seen) b false) (getD (x .at) b 0) 0
+unfoldable pub each : Each → ℕ → List (Found registers.Modes)
+each x b = kept (getD (x .seen) b false) (getD (x .at) b 0) unnoted
 
-unfoldable pub notedEach : NotedEach → ℕ → List (Found ℕ)
-notedEach x b = kept (getD (x .seen) b false) (getD (x .at) b 0) (getD (x .mr2) b 0)
+-- registers that no one set
+abbrev pub noModes : Modes
+noModes = record { mr2 = 0; programmed = false; mr1 = 0 }
 
-abbrev pub place : Four → ℕ → Found ℕ
-place x k = entry (getD (x .at) k 0) 0
+unfoldable pub notedEach : NotedEach → ℕ → List (Found registers.Modes)
+notedEach x b = kept (getD (x .seen) b false) (getD (x .at) b 0) (modesOf (getD (x .modes) b noModes))
 
-unfoldable pub four : Four → List (Found ℕ)
+abbrev pub place : Four → ℕ → Found registers.Modes
+place x k = entry (getD (x .at) k 0) unnoted
+
+unfoldable pub four : Four → List (Found registers.Modes)
 four x = take (x .count) (place x 0 ∷ place x 1 ∷ place x 2 ∷ place x 3 ∷ [])
 
 -- both were seen, and the second came later
 unfoldable pub outweighed : (seen later : Bool) → (at other : ℕ) → Bool
 outweighed s r t u = s && r && ltb t u
 
-unfoldable pub preOf : Share → ℕ → List (Found ℕ)
+unfoldable pub preOf : Share → ℕ → List (Found registers.Modes)
 preOf s b =
     let p = s .banks .pre in
     let a = s .latest .prea in
     cond (outweighed (getD (p .seen) b false) (a .seen) (getD (p .at) b 0) (a .at)) [] (each p b)
 
-unfoldable pub preaOf : Share → ℕ → List (Found ℕ)
+unfoldable pub preaOf : Share → ℕ → List (Found registers.Modes)
 preaOf s b =
     let p = s .banks .pre in
     let a = s .latest .prea in
     cond (outweighed (a .seen) (getD (p .seen) b false) (a .at) (getD (p .at) b 0)) [] (once a)
 
 -- what it remembers, by question
-unfoldable pub asked : Share → Ask → ℕ → List (Found ℕ)
+unfoldable pub asked : Share → Ask → ℕ → List (Found registers.Modes)
 asked s lastMRW b = once (s .latest .mrw)
 asked s lastMRR b = once (s .latest .mrr)
 asked s lastREFab b = once (s .latest .refab)
@@ -112,7 +119,7 @@ lastOf x = cond (x .seen) (some (x .at)) none
 
 unfoldable pub shareOf : Share → lent.Share
 shareOf s = record {
-  mr2 = s .mr2;
+  modes = modesOf (s .modes);
   open? = λ b. getD (s .banks .opened) b false;
   counter = s .counter;
   history = λ q. asked s (q .ask) (q .bank);
@@ -130,7 +137,7 @@ unfoldable pub lentOf : Record → lent.Lent
 lentOf r = record { card = cardOf (r .card); last = lastOf (r .last); pace = paceOf (r .pace); share = shareIn r }
 
 -- what a part's bus answers: the latest RD, WR, and RD or MRR. It is not asked more
-unfoldable pub heard : Bus → Ask → List (Found ℕ)
+unfoldable pub heard : Bus → Ask → List (Found registers.Modes)
 heard x lastMRW = []
 heard x lastMRR = []
 heard x lastREFab = []
@@ -159,13 +166,13 @@ unfoldable pub never : Once
 never = record { seen = false; at = 0 }
 
 unfoldable pub neverNoted : Noted
-neverNoted = record { seen = false; at = 0; mr2 = 0 }
+neverNoted = record { seen = false; at = 0; modes = noModes }
 
 unfoldable pub neverEach : Each
 neverEach = record { seen = replicate 8 false; at = replicate 8 0 }
 
 unfoldable pub neverNotedEach : NotedEach
-neverNotedEach = record { seen = replicate 8 false; at = replicate 8 0; mr2 = replicate 8 0 }
+neverNotedEach = record { seen = replicate 8 false; at = replicate 8 0; modes = replicate 8 noModes }
 
 unfoldable pub neverFour : Four
 neverFour = record { count = 0; at = replicate 4 0 }
@@ -173,9 +180,9 @@ neverFour = record { count = 0; at = replicate 4 0 }
 unfoldable pub idleBus : Bus
 idleBus = record { rd = never; wr = neverNoted; turn = neverNoted }
 
-unfoldable pub freshShare : (mr2 : ℕ) → Share
+unfoldable pub freshShare : Modes → Share
 freshShare m = record {
-  mr2 = m;
+  modes = m;
   counter = 0;
   latest = record {
     mrw = never;
@@ -204,13 +211,17 @@ freshShare m = record {
   ledger = record { at = 0; owed = 8; since = 0; skipped = 0; level = Awake };
 }
 
+-- what a card starts with
+abbrev pub startOf : Card → Modes
+startOf card = record { mr2 = card .mr2; programmed = card .programmed; mr1 = card .mr1 }
+
 unfoldable pub freshOf : Card → Record
 freshOf card = record {
   card = card;
   last = never;
   pace = paceIn (lent.startPace (cardOf card));
-  first = freshShare (card .mr2);
-  second = freshShare (card .mr2);
+  first = freshShare (startOf card);
+  second = freshShare (startOf card);
 }
 
 -- the other part's bus, as part p sees it; nothing was heard of a part that is not there

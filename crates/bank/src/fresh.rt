@@ -1,6 +1,6 @@
 // The record before the first entry.
 ghost use mathlib.Core.Path.{_≡_};
-ghost use Rattle.bank.specs.Values.{idleBus, freshShare, freshOf};
+ghost use Rattle.bank.specs.Values.{idleBus, freshShare, startOf, freshOf};
 use crate::Banks;
 use crate::Bus;
 use crate::Each;
@@ -13,15 +13,22 @@ use crate::Once;
 use crate::Record;
 use crate::Share;
 use card::Card;
+use card::Modes;
 use ledger::Ledger;
 use pins::Level;
 
 const NEVER: Once = Once { seen: false, at: 0 };
 
+const NO_MODES: Modes = Modes {
+    mr2: 0,
+    programmed: false,
+    mr1: 0,
+};
+
 const NEVER_NOTED: Noted = Noted {
     seen: false,
     at: 0,
-    mr2: 0,
+    modes: NO_MODES,
 };
 
 const NEVER_EACH: Each = Each {
@@ -32,7 +39,7 @@ const NEVER_EACH: Each = Each {
 const NEVER_NOTED_EACH: NotedEach = NotedEach {
     seen: [false; 8],
     at: [0; 8],
-    mr2: [0; 8],
+    modes: [NO_MODES; 8],
 };
 
 const NEVER_FOUR: Four = Four {
@@ -51,11 +58,11 @@ pub fn idle_bus() -> Bus
     }
 }
 
-fn fresh_share(mr2: u8) -> Share
-    ensures { λ r. ⌜ r ≡ freshShare mr2 ⌝ }
+fn fresh_share(modes: Modes) -> Share
+    ensures { λ r. ⌜ r ≡ freshShare modes ⌝ }
 {
     Share {
-        mr2: mr2,
+        modes: modes,
         counter: 0,
         latest: Latest {
             mrw: NEVER,
@@ -91,6 +98,16 @@ fn fresh_share(mr2: u8) -> Share
     }
 }
 
+fn start(card: Card) -> Modes
+    ensures { λ r. ⌜ r ≡ startOf card ⌝ }
+{
+    Modes {
+        mr2: card.mr2,
+        programmed: card.programmed,
+        mr1: card.mr1,
+    }
+}
+
 pub fn fresh_record(card: Card) -> Record
     ensures { λ r. ⌜ r ≡ freshOf card ⌝ }
 {
@@ -98,7 +115,7 @@ pub fn fresh_record(card: Card) -> Record
         card: card,
         last: NEVER,
         pace: ledger::first_pace(card),
-        first: fresh_share(card.mr2),
-        second: fresh_share(card.mr2),
+        first: fresh_share(start(card)),
+        second: fresh_share(start(card)),
     }
 }

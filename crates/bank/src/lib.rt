@@ -9,6 +9,7 @@ mod taking;
 pub use both::entered;
 pub use both::ledgers_of;
 use card::Card;
+use card::Modes;
 pub use ending::close;
 pub use fresh::fresh_record;
 pub use fresh::idle_bus;
@@ -29,11 +30,11 @@ pub struct Once {
     pub at: u32,
 }
 
-// The same with MR2 as it stood there.
+// The same with the mode registers as they stood there.
 pub struct Noted {
     pub seen: bool,
     pub at: u32,
-    pub mr2: u8,
+    pub modes: Modes,
 }
 
 // One of each bank.
@@ -45,7 +46,7 @@ pub struct Each {
 pub struct NotedEach {
     pub seen: [bool; 8],
     pub at: [u32; 8],
-    pub mr2: [u8; 8],
+    pub modes: [Modes; 8],
 }
 
 // The last four activations of all banks, the newest first; a count above 4 is read as 4.
@@ -91,7 +92,7 @@ pub struct Moves {
 
 // What is kept of a part; its level is the ledger's.
 pub struct Share {
-    pub mr2: u8,
+    pub modes: Modes,
     pub counter: u8,
     pub latest: Latest,
     pub moves: Moves,

@@ -137,11 +137,12 @@ fn note_good(period: u32, now: u8, seen: bool, mr2: u8) -> bool
 
 fn notes_good(period: u32, now: u8, x: NotedEach) -> bool
     requires { ⌜ mr2Good period now ≡ true ⌝ }
-    ensures { λ r. ⌜ r ≡ notesGood period (x .seen) (x .mr2) ⌝ }
+    ensures { λ r. ⌜ r ≡ notesGood period (x .seen) (x .modes) ⌝ }
 {
     let mut i: usize = 0;
     while i < 8 {
-        if !note_good(period, now, x.seen[i], x.mr2[i]) {
+        let modes = x.modes[i];
+        if !note_good(period, now, x.seen[i], modes.mr2) {
             return false;
         }
         i += 1;
@@ -153,12 +154,12 @@ fn mr2s_good(card: Card, x: Share) -> bool
     ensures { λ r. ⌜ r ≡ lent.mr2sGood (cardOf card) (shareOf x) ⌝ }
 {
     let period = card.period;
-    let now = x.mr2;
+    let now = x.modes.mr2;
     if !card::mr2_good(period, now) {
         return false;
     }
-    (note_good(period, now, x.bus.wr.seen, x.bus.wr.mr2)
-        & note_good(period, now, x.bus.turn.seen, x.bus.turn.mr2))
+    (note_good(period, now, x.bus.wr.seen, x.bus.wr.modes.mr2)
+        & note_good(period, now, x.bus.turn.seen, x.bus.turn.modes.mr2))
         & (notes_good(period, now, x.banks.wr) & notes_good(period, now, x.banks.wra))
 }
 

@@ -2,9 +2,8 @@
 ghost use mathlib.Core.Path.{_≡_};
 ghost use lib.ListN.{set};
 ghost use Rattle.rules.specs.Levels.{rises};
-ghost use Rattle.rules.specs.Past.{registerAfter};
 ghost use Rattle.pins.specs.Values.{commandOf, levelOf, movedOf, whoseOf};
-ghost use Rattle.bank.specs.After.{Changed, onceAt, notedAt, putEach, putNoted, shifted, pushedOn, fourAfter, latestAfter, movesAfter, busAfter, openedAfter, readOn, writtenOn, stampedAfter, banksAfter, shareAfter, withLedger, ShareChanged};
+ghost use Rattle.bank.specs.After.{Changed, modesAfter, onceAt, notedAt, putEach, putNoted, shifted, pushedOn, fourAfter, latestAfter, movesAfter, busAfter, openedAfter, readOn, writtenOn, stampedAfter, banksAfter, shareAfter, withLedger, ShareChanged};
 use crate::Banks;
 use crate::Bus;
 use crate::Each;
@@ -17,6 +16,7 @@ use crate::NotedEach;
 use crate::Once;
 use crate::Record;
 use crate::Share;
+use card::Modes;
 use ledger::Ledger;
 use ledger::Pace;
 use pins::Command;
@@ -30,13 +30,13 @@ pub fn once_at(t: u32) -> Once
     Once { seen: true, at: t }
 }
 
-fn noted_at(t: u32, mr2: u8) -> Noted
-    ensures { λ r. ⌜ r ≡ notedAt t mr2 ⌝ }
+fn noted_at(t: u32, modes: Modes) -> Noted
+    ensures { λ r. ⌜ r ≡ notedAt t modes ⌝ }
 {
     Noted {
         seen: true,
         at: t,
-        mr2: mr2,
+        modes: modes,
     }
 }
 
@@ -54,8 +54,8 @@ fn put(x: Each, bank: u8, t: u32) -> Each
     next
 }
 
-fn put_noted(x: NotedEach, bank: u8, t: u32, mr2: u8) -> NotedEach
-    ensures { λ r. ⌜ r ≡ putNoted bank t mr2 x ⌝ }
+fn put_noted(x: NotedEach, bank: u8, t: u32, modes: Modes) -> NotedEach
+    ensures { λ r. ⌜ r ≡ putNoted bank t modes x ⌝ }
 {
     if 7 < bank {
         return x;
@@ -64,7 +64,7 @@ fn put_noted(x: NotedEach, bank: u8, t: u32, mr2: u8) -> NotedEach
     let mut next = x;
     next.seen[i] = true;
     next.at[i] = t;
-    next.mr2[i] = mr2;
+    next.modes[i] = modes;
     next
 }
 
@@ -74,16 +74,23 @@ fn shift(at: [u32; 4], t: u32) -> [u32; 4]
     [t, at[0], at[1], at[2]]
 }
 
-fn mr2_after(mr2: u8, command: Command) -> u8
-    ensures { λ r. ⌜ r ≡ registerAfter 2 (commandOf command) mr2 ⌝ }
+fn modes_after(modes: Modes, command: Command) -> Modes
+    ensures { λ r. ⌜ r ≡ modesAfter (commandOf command) modes ⌝ }
 {
     let Command::Mrw { ma, op } = command else {
-        return mr2;
+        return modes;
     };
+    let mut next = modes;
     if ma == 2 {
-        return op;
+        next.mr2 = op;
+        return next;
     }
-    mr2
+    if ma == 1 {
+        next.programmed = true;
+        next.mr1 = op;
+        return next;
+    }
+    modes
 }
 
 // The oldest of five is dropped.
@@ -177,11 +184,11 @@ fn moves_after(x: Moves, moved: Move, t: u32) -> Moves
     }
 }
 
-// MR2 as it stood before the entry.
-fn bus_after(x: Bus, command: Command, t: u32, mr2: u8) -> Bus
-    ensures { λ r. ⌜ r ≡ busAfter (commandOf command) t mr2 x ⌝ }
+// The mode registers as they stood before the entry.
+fn bus_after(x: Bus, command: Command, t: u32, modes: Modes) -> Bus
+    ensures { λ r. ⌜ r ≡ busAfter (commandOf command) t modes x ⌝ }
 {
-    let now = noted_at(t, mr2);
+    let now = noted_at(t, modes);
     let mut next = x;
     match command {
         Command::Mrr { .. } => {
@@ -251,23 +258,23 @@ fn read(x: Banks, bank: u8, ap: bool, t: u32) -> Banks
     next
 }
 
-fn written(x: Banks, bank: u8, ap: bool, t: u32, mr2: u8) -> Banks
-    ensures { λ r. ⌜ r ≡ writtenOn bank ap t mr2 x ⌝ }
+fn written(x: Banks, bank: u8, ap: bool, t: u32, modes: Modes) -> Banks
+    ensures { λ r. ⌜ r ≡ writtenOn bank ap t modes x ⌝ }
 {
     let wr = x.wr;
     let wra = x.wra;
     let mut next = x;
-    next.wr = put_noted(wr, bank, t, mr2);
+    next.wr = put_noted(wr, bank, t, modes);
     if ap {
-        next.wra = put_noted(wra, bank, t, mr2);
+        next.wra = put_noted(wra, bank, t, modes);
         return next;
     }
     next
 }
 
 // The stamps of each bank alone.
-fn stamped(x: Banks, command: Command, counter: u8, t: u32, mr2: u8) -> Banks
-    ensures { λ r. ⌜ r ≡ stampedAfter (commandOf command) counter t mr2 x ⌝ }
+fn stamped(x: Banks, command: Command, counter: u8, t: u32, modes: Modes) -> Banks
+    ensures { λ r. ⌜ r ≡ stampedAfter (commandOf command) counter t modes x ⌝ }
 {
     let refpb = x.refpb;
     let pre = x.pre;
@@ -283,7 +290,7 @@ fn stamped(x: Banks, command: Command, counter: u8, t: u32, mr2: u8) -> Banks
             next
         }
         Command::Rd { bank, ap, .. } => read(x, bank, ap, t),
-        Command::Wr { bank, ap, .. } => written(x, bank, ap, t, mr2),
+        Command::Wr { bank, ap, .. } => written(x, bank, ap, t, modes),
         Command::Pre { bank } => {
             next.pre = put(pre, bank, t);
             next
@@ -292,11 +299,11 @@ fn stamped(x: Banks, command: Command, counter: u8, t: u32, mr2: u8) -> Banks
     }
 }
 
-fn banks_after(x: Banks, command: Command, counter: u8, t: u32, mr2: u8) -> Banks
-    ensures { λ r. ⌜ r ≡ banksAfter (commandOf command) counter t mr2 x ⌝ }
+fn banks_after(x: Banks, command: Command, counter: u8, t: u32, modes: Modes) -> Banks
+    ensures { λ r. ⌜ r ≡ banksAfter (commandOf command) counter t modes x ⌝ }
 {
     let opened = x.opened;
-    let mut next = stamped(x, command, counter, t, mr2);
+    let mut next = stamped(x, command, counter, t, modes);
     let now = opened_after(opened, command);
     next.opened = now;
     next
@@ -305,7 +312,7 @@ fn banks_after(x: Banks, command: Command, counter: u8, t: u32, mr2: u8) -> Bank
 pub fn share_after(x: Share, stamp: u32, command: Command, moved: Move, ledger: Ledger) -> Share
     ensures { λ r. ⌜ r ≡ shareAfter x (commandOf command) (movedOf moved) stamp ledger ⌝ }
 {
-    let mr2 = x.mr2;
+    let modes = x.modes;
     let counter = x.counter;
     let latest = x.latest;
     let moves = x.moves;
@@ -313,13 +320,13 @@ pub fn share_after(x: Share, stamp: u32, command: Command, moved: Move, ledger: 
     let four = x.four;
     let banks = x.banks;
     Share {
-        mr2: mr2_after(mr2, command),
+        modes: modes_after(modes, command),
         counter: pins::counter_after(counter, command, moved),
         latest: latest_after(latest, command, stamp),
         moves: moves_after(moves, moved, stamp),
-        bus: bus_after(bus, command, stamp, mr2),
+        bus: bus_after(bus, command, stamp, modes),
         four: four_after(four, command, stamp),
-        banks: banks_after(banks, command, counter, stamp, mr2),
+        banks: banks_after(banks, command, counter, stamp, modes),
         ledger: ledger,
     }
 }

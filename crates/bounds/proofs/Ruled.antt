@@ -9,17 +9,17 @@ use Rattle.rules.specs.Lists.{when}
 use Rattle.rules.specs.Commands as rules
 use Rattle.rules.specs.Commands.{NOP, MRW, MRR, REFPB, REFAB, ACT, RD, WR, PRE, PREA, is, banks}
 use Rattle.rules.specs.Levels.{selfRefresh, Move, stays, isFall, isRise, risesFrom}
-use Rattle.rules.specs.Registers.{rlOf, wlOf}
+use Rattle.rules.specs.Registers.{rlOf, wlOf, Modes, nwrOf}
 use Rattle.rules.specs.Past.{bankAt}
 use Rattle.rules.specs.Folds.{permittedBy, bound}
 use Rattle.rules.specs.Folds as folds
-use Rattle.rules.specs.Delays.{Answers, lookBoth, lastRD, lastWR, lastRDorMRR, lastFall, lastPowerExit, lastSelfExit, idleUse, precharged, without, from, lagging, across, rule, delayRules}
+use Rattle.rules.specs.Delays.{Answers, lookBoth, lastRD, lastWR, lastRDorMRR, lastFall, lastPowerExit, lastSelfExit, idleUse, precharged, without, from, lagging, recovering, across, rule, delayRules}
 use Rattle.rules.specs.Lent.{lookIn}
 use Rattle.card.specs.Values.{clocksOf}
 use Rattle.card.specs.declared.Delays.{Delays}
 use Rattle.pins.specs.Values.{commandOf}
 use Rattle.pins.specs.declared.Command.{Command}
-use Rattle.bank.specs.Values.{shareOf, busLook, idleBus, freshShare}
+use Rattle.bank.specs.Values.{noModes, shareOf, busLook, idleBus, freshShare}
 use Rattle.bank.specs.declared.Bus.{Bus}
 use Rattle.bank.specs.declared.Share.{Share}
 use Rattle.bounds.specs.Values.{lookWith}
@@ -28,7 +28,7 @@ use Rattle.bounds.specs.declared.answers.Ask.{Ask}
 use Rattle.bounds.specs.declared.answers.Ask.the-variants.{Mrw, Mrr, Refab, Refpb, RefpbTo, PreTo, PreaTo, ActTo, FourthLast, Rd, Wr, RdOrMrr, RdTo, RdaTo, WrTo, WraTo, Fall, PowerExit, SelfExit}
 use Rattle.bounds.specs.declared.answers.Found.{Found}
 use Rattle.bounds.specs.declared.delays.Lag.{Lag}
-use Rattle.bounds.specs.declared.delays.Lag.the-variants.{Plain, Written, Turned}
+use Rattle.bounds.specs.declared.delays.Lag.the-variants.{Plain, Written, Turned, Recovered}
 use Rattle.bounds.proofs.Spanned.{joined}
 use Rattle.bounds.proofs.Sourced.{own-asked, far, far-asked, across-both, rd-heard, wr-heard, turn-heard}
 
@@ -66,10 +66,16 @@ module _ (s : Share) (d : Delays) (c : Command) (x : Bus) (v : Move) where
   two a b t u bs cs = joined (lookWith s x) (from bs t (askOf a)) (from cs u (askOf b)) ∙ rw (one a t bs, one b u cs)
 
   -- one by RL and WL
-  lag : (a : Ask) (g : Lag) (t : ℕ) (e : ℕ → ℕ → ℕ) (bs : List ℕ) → ((m : ℕ) → e (rlOf m) (wlOf m) ≡ delayIn g t m)
+  lag : (a : Ask) (g : Lag) (t : ℕ) (e : ℕ → ℕ → ℕ) (bs : List ℕ) → ((m : Modes) → e (rlOf (m .mr2)) (wlOf (m .mr2)) ≡ delayIn g t m)
       → permittedBy (lookWith s x) (lagging bs e (askOf a)) ≡ asked bs a g t
   unfolding lookWith lagging askedFor
-  lag a g t e bs h = own-asked look (busLook x) a g t (λ m. e (rlOf m) (wlOf m)) h bs
+  lag a g t e bs h = own-asked look (busLook x) a g t (λ m. e (rlOf (m .mr2)) (wlOf (m .mr2))) h bs
+
+  -- and by WL and nWR
+  recovers : (a : Ask) (w t : ℕ) (e : ℕ → ℕ → ℕ) (bs : List ℕ) → ((m : Modes) → e (wlOf (m .mr2)) (nwrOf w m) ≡ delayIn (Recovered w) t m)
+      → permittedBy (lookWith s x) (recovering bs w e (askOf a)) ≡ asked bs a (Recovered w) t
+  unfolding lookWith recovering askedFor
+  recovers a w t e bs h = own-asked look (busLook x) a (Recovered w) t (λ m. e (wlOf (m .mr2)) (nwrOf w m)) h bs
 
   pub all-banks-are : by 1 ∷ by 2 ∷ by 3 ∷ [] ≡
       asked (own (not (is NOP k))) Mrw Plain (d .tmrw) ∷ asked (own (not (is NOP k))) Mrr Plain (d .tmrr) ∷ asked (own (not (is NOP k))) Refab Plain (d .trfcab) ∷ []
@@ -105,11 +111,11 @@ module _ (s : Share) (d : Delays) (c : Command) (x : Bus) (v : Move) where
   bursts-is = two Rd Wr 4 4 (own (is RD k || is MRR k)) (own (is WR k))
 
   -- the sums of 13 and 14 as the code makes them
-  up : (m : ℕ) → rlOf m + d .tdqsck + 5 - wlOf m ≡ delayIn Turned (d .tdqsck + 5) m
+  up : (m : Modes) → rlOf (m .mr2) + d .tdqsck + 5 - wlOf (m .mr2) ≡ delayIn Turned (d .tdqsck + 5) m
   unfolding delayIn
   up m = omega arith
 
-  down : (m : ℕ) → wlOf m + 5 + d .twtr ≡ delayIn Written (5 + d .twtr) m
+  down : (m : Modes) → wlOf (m .mr2) + 5 + d .twtr ≡ delayIn Written (5 + d .twtr) m
   unfolding delayIn
   down m = omega arith
 
@@ -126,14 +132,14 @@ module _ (s : Share) (d : Delays) (c : Command) (x : Bus) (v : Move) where
   after-rd-are = λ i. one RdTo (max 4 (d .trtp)) (precharged k) i ∷ one RdaTo (max 4 (d .trtp) + d .trppb) (idleUse k n) i ∷ []
 
   pub after-wr-are : by 17 ∷ by 18 ∷ [] ≡
-      asked (precharged k) WrTo Written (5 + d .twr) ∷ asked (idleUse k n) WraTo Written (5 + d .twr + d .trppb) ∷ []
+      asked (precharged k) WrTo Written (5 + d .twr) ∷ asked (idleUse k n) WraTo (Recovered (d .twr)) (5 + d .trppb) ∷ []
   unfolding placeOf boundsOf delayRules rule bound askOf clocksOf
   after-wr-are =
-      let near : (m : ℕ) → wlOf m + 5 + d .twr ≡ delayIn Written (5 + d .twr) m = λ m. unfold delayIn in omega arith in
-      let late : (m : ℕ) → wlOf m + 5 + d .twr + d .trppb ≡ delayIn Written (5 + d .twr + d .trppb) m = λ m. unfold delayIn in omega arith in
+      let near : (m : Modes) → wlOf (m .mr2) + 5 + d .twr ≡ delayIn Written (5 + d .twr) m = λ m. unfold delayIn in omega arith in
+      let late : (m : Modes) → wlOf (m .mr2) + 5 + nwrOf (d .twr) m + d .trppb ≡ delayIn (Recovered (d .twr)) (5 + d .trppb) m = λ m. unfold delayIn in omega arith in
       λ i.
       lag WrTo Written (5 + d .twr) (λ rl wl. wl + 5 + d .twr) (precharged k) near i ∷
-      lag WraTo Written (5 + d .twr + d .trppb) (λ rl wl. wl + 5 + d .twr + d .trppb) (idleUse k n) late i ∷ []
+      recovers WraTo (d .twr) (5 + d .trppb) (λ wl nwr. wl + 5 + nwr + d .trppb) (idleUse k n) late i ∷ []
 
   pub between-moves-is : by 21 ≡
       max (asked (own (isRise v)) Fall Plain (d .tcke)) (max (asked (own (isFall v)) PowerExit Plain (d .tcke)) (asked (own (isFall v)) SelfExit Plain (d .tcke)))
@@ -153,13 +159,13 @@ module _ (s : Share) (d : Delays) (c : Command) (x : Bus) (v : Move) where
 
   -- those that ask the other part
   abbrev rd : Found
-  rd = foundAs (x .rd .seen) (x .rd .at) 0
+  rd = foundAs (x .rd .seen) (x .rd .at) noModes
 
   abbrev wr : Found
-  wr = foundAs (x .wr .seen) (x .wr .at) (x .wr .mr2)
+  wr = foundAs (x .wr .seen) (x .wr .at) (x .wr .modes)
 
   abbrev turn : Found
-  turn = foundAs (x .turn .seen) (x .turn .at) (x .turn .mr2)
+  turn = foundAs (x .turn .seen) (x .turn .at) (x .turn .modes)
 
   pub across-are : by 25 ∷ by 26 ∷ by 27 ∷ [] ≡
       max (far (is RD k || is MRR k) rd Plain 4 (d .gap)) (far (is WR k) wr Plain 4 (d .gap)) ∷
@@ -178,8 +184,8 @@ module _ (s : Share) (d : Delays) (c : Command) (x : Bus) (v : Move) where
       ) in
       λ i.
       first i ∷
-      far-asked look other (is WR k) b turn lastRDorMRR Turned (d .tdqsck + 5) (d .gap) (λ m. rlOf m + d .tdqsck + 5 - wlOf m) up (turn-heard x b) i ∷
-      far-asked look other (is RD k || is MRR k) b wr lastWR Written (5 + d .twtr) (d .gap) (λ m. wlOf m + 5 + d .twtr) down (wr-heard x b) i ∷ []
+      far-asked look other (is WR k) b turn lastRDorMRR Turned (d .tdqsck + 5) (d .gap) (λ m. rlOf (m .mr2) + d .tdqsck + 5 - wlOf (m .mr2)) up (turn-heard x b) i ∷
+      far-asked look other (is RD k || is MRR k) b wr lastWR Written (5 + d .twtr) (d .gap) (λ m. wlOf (m .mr2) + 5 + d .twtr) down (wr-heard x b) i ∷ []
 
   pub broken-is : (t : ℕ) → folds.firstBroken (lookWith s x) (delayRules (clocksOf d) k v n) t ≡ brokenFrom 0 (boundsOf s x d c v) t
   unfolding boundsOf delayRules rule folds.firstBroken brokenFrom ruleAt
@@ -223,7 +229,7 @@ module _ (s : Share) (d : Delays) (c : Command) (x : Bus) (v : Move) where
       let moves = between-moves-is s d c x v ∙ sym (between-moves-is s d c idleBus v) in
       let z = after-exit-are s d c x v ∙ sym (after-exit-are s d c idleBus stays) in
       let rest = in-self-refresh-is s d c x v ∙ sym (in-self-refresh-is s d c idleBus v) in
-      let o = across-are s d c x v ∙ sym (across-are (freshShare 0) d c x stays) in
+      let o = across-are s d c x v ∙ sym (across-are (freshShare noModes) d c x stays) in
       λ i.
       nth 0 a i ∷ nth 1 a i ∷ nth 2 a i ∷ four i ∷ nth 0 p i ∷ nth 1 p i ∷ nth 0 y i ∷ nth 1 y i ∷ nth 2 y i ∷ ten i ∷ eleven i ∷ twelve i ∷
       nth 0 t i ∷ nth 1 t i ∷ nth 0 r i ∷ nth 1 r i ∷ nth 0 w i ∷ nth 1 w i ∷ moves i ∷ nth 0 z i ∷ rest i ∷ nth 1 z i ∷

@@ -9,6 +9,7 @@ use lib.Dec.{eqb}
 use Rattle.rules.specs.Folds as folds
 use Rattle.rules.specs.Folds.{Source, permitted, permittedBy}
 use Rattle.rules.specs.Commands.{Command, nop, mrw, mrr, refpb, refab, act, rd, wr, pre, prea, code, is, kindOf, bankOf, carries, bare}
+use Rattle.rules.specs.Registers.{Modes}
 use Rattle.rules.specs.Past.{bankAt}
 use Rattle.rules.specs.Delays.{Answers, without}
 use Rattle.bounds.specs.Parts.{askedFor, range, spanOf, delayIn, permittedAfter, sourcesOf}
@@ -30,13 +31,13 @@ own-bank (wr bank column ap) = refl
 own-bank (pre bank) = refl
 own-bank prea = refl
 
-pub same-permitted : {Q : Type 0} (s : Source Q ℕ) (g : Lag) (d : ℕ) (o : Option (folds.Found ℕ)) → ((m : ℕ) → s .delay m ≡ delayIn g d m)
+pub same-permitted : {Q : Type 0} (s : Source Q Modes) (g : Lag) (d : ℕ) (o : Option (folds.Found Modes)) → ((m : Modes) → s .delay m ≡ delayIn g d m)
     → permitted s o ≡ permittedAfter g d o
 unfolding permitted permittedAfter
 same-permitted s g d none e = refl
 same-permitted s g d (some f) e = rw (e (f .noted))
 
-pub joined : {Q : Type 0} (look : Q → Option (folds.Found ℕ)) (xs ys : List (Source Q ℕ)) → permittedBy look (xs ++ ys) ≡ max (permittedBy look xs) (permittedBy look ys)
+pub joined : {Q : Type 0} (look : Q → Option (folds.Found Modes)) (xs ys : List (Source Q Modes)) → permittedBy look (xs ++ ys) ≡ max (permittedBy look xs) (permittedBy look ys)
 unfolding permittedBy
 joined look [] ys = omega arith
 joined look (x ∷ xs) ys = omega (arith, joined look xs ys)

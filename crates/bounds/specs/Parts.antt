@@ -6,16 +6,18 @@ use mathlib.Core.Option.{Option, none, some}
 use lib.Dec.{leb, ltb}
 use lib.ListN.{getD}
 use Rattle.rules.specs.Levels.{Move, stays}
-use Rattle.rules.specs.Registers.{rlOf, wlOf}
+use Rattle.rules.specs.Registers.{rlOf, wlOf, nwrOf}
+use Rattle.rules.specs.Registers as registers
 use Rattle.rules.specs.Folds.{Source, bound}
 use Rattle.rules.specs.Folds as folds
 use Rattle.rules.specs.Delays as paper
 use Rattle.rules.specs.Delays.{Question, without}
-use Rattle.card.specs.Values.{clocksOf}
+use Rattle.card.specs.Values.{modesOf, clocksOf}
 use Rattle.card.specs.declared.Delays.{Delays}
+use Rattle.card.specs.declared.Modes.{Modes}
 use Rattle.pins.specs.Values.{commandOf}
 use Rattle.pins.specs.declared.Command.{Command}
-use Rattle.bank.specs.Values.{entry, idleBus, freshShare}
+use Rattle.bank.specs.Values.{entry, noModes, idleBus, freshShare}
 use Rattle.bank.specs.declared.Once.{Once}
 use Rattle.bank.specs.declared.Bus.{Bus}
 use Rattle.bank.specs.declared.Share.{Share}
@@ -26,7 +28,7 @@ use Rattle.bounds.specs.declared.answers.Found.{Found}
 use Rattle.bounds.specs.declared.spans.Shown.{Shown}
 use Rattle.bounds.specs.declared.spans.Span.{Span}
 use Rattle.bounds.specs.declared.delays.Lag.{Lag}
-use Rattle.bounds.specs.declared.delays.Lag.the-variants.{Plain, Written, Turned}
+use Rattle.bounds.specs.declared.delays.Lag.the-variants.{Plain, Written, Turned, Recovered}
 
 -- the bounds of the rules, by rising number
 unfoldable pub boundsOf : Share → Bus → Delays → Command → Move → List ℕ
@@ -44,7 +46,7 @@ unfoldable pub boundOf : Share → Delays → Command → Move → ℕ → ℕ
 boundOf s d c v k = getD (boundsOf s idleBus d c v) (placeOf k) 0
 
 unfoldable pub acrossOf : Bus → Delays → Command → ℕ → ℕ
-acrossOf x d c k = getD (boundsOf (freshShare 0) x d c stays) (placeOf k) 0
+acrossOf x d c k = getD (boundsOf (freshShare noModes) x d c stays) (placeOf k) 0
 
 -- the first of these, which stand from place i on
 unfoldable pub brokenFrom : (i : ℕ) → List ℕ → (stamp : ℕ) → Option (ℕ × ℕ)
@@ -83,11 +85,11 @@ askedFor a b = record { ask = askOf a; bank = b }
 abbrev pub onceAs : Bool → ℕ → Once
 onceAs s t = record { seen = s; at = t }
 
-abbrev pub foundAs : Bool → (at mr2 : ℕ) → Found
-foundAs s t m = record { seen = s; at = t; mr2 = m }
+abbrev pub foundAs : Bool → (at : ℕ) → Modes → Found
+foundAs s t m = record { seen = s; at = t; modes = m }
 
-unfoldable pub answerOf : Found → Option (folds.Found ℕ)
-answerOf x = cond (x .seen) (some (entry (x .at) (x .mr2))) none
+unfoldable pub answerOf : Found → Option (folds.Found registers.Modes)
+answerOf x = cond (x .seen) (some (entry (x .at) (modesOf (x .modes)))) none
 
 -- ---- the banks asked for
 abbrev pub shownAs : (kind bank : ℕ) → Shown
@@ -101,14 +103,15 @@ unfoldable pub spanOf : Span → List ℕ
 spanOf s = without (s .but) (range (s .first) (s .count))
 
 -- ---- delays
-unfoldable pub delayIn : Lag → (clocks mr2 : ℕ) → ℕ
+unfoldable pub delayIn : Lag → (clocks : ℕ) → registers.Modes → ℕ
 delayIn Plain d m = d
-delayIn Written d m = wlOf m + d
-delayIn Turned d m = rlOf m + d - wlOf m
+delayIn Written d m = wlOf (m .mr2) + d
+delayIn Turned d m = rlOf (m .mr2) + d - wlOf (m .mr2)
+delayIn (Recovered w) d m = wlOf (m .mr2) + nwrOf w m + d
 
-unfoldable pub permittedAfter : Lag → (clocks : ℕ) → Option (folds.Found ℕ) → ℕ
+unfoldable pub permittedAfter : Lag → (clocks : ℕ) → Option (folds.Found registers.Modes) → ℕ
 permittedAfter g d none = 0
 permittedAfter g d (some f) = f .stamp + delayIn g d (f .noted)
 
-unfoldable pub sourcesOf : List ℕ → Ask → Lag → (clocks : ℕ) → List (Source Question ℕ)
+unfoldable pub sourcesOf : List ℕ → Ask → Lag → (clocks : ℕ) → List (Source Question registers.Modes)
 sourcesOf bs a g d = map (λ b. record { ask = askedFor a b; delay = delayIn g d }) bs

@@ -4,7 +4,7 @@ ghost use mathlib.Core.Bool.{false, cond, _&&_, not};
 ghost use mathlib.Core.List.{[]};
 ghost use lib.ListN.{getD, getElem?};
 ghost use Rattle.rules.specs.Lent.{lookIn};
-ghost use Rattle.bank.specs.Values.{once, each, four, shareOf, outweighed};
+ghost use Rattle.bank.specs.Values.{once, each, noModes, four, shareOf, outweighed};
 ghost use Rattle.bounds.specs.Parts.{onceAs, foundAs, askedFor, answerOf};
 use bank::Each;
 use bank::Four;
@@ -12,6 +12,7 @@ use bank::Noted;
 use bank::NotedEach;
 use bank::Once;
 use bank::Share;
+use card::Modes;
 
 // The latest entry of a kind, or of a kind to one bank; the first of the four latest activations; the latest RD or MRR; the latest moves of clock-enable.
 pub enum Ask {
@@ -36,12 +37,18 @@ pub enum Ask {
     SelfExit,
 }
 
-// An entry's stamp and MR2 as it stood there, if there is one; 0 where no rule goes by MR2.
+// An entry's stamp and the mode registers as they stood there, if there is one; none where no rule goes by them.
 pub struct Found {
     pub seen: bool,
     pub at: u32,
-    pub mr2: u8,
+    pub modes: Modes,
 }
+
+const NO_MODES: Modes = Modes {
+    mr2: 0,
+    programmed: false,
+    mr1: 0,
+};
 
 // A bank above 7 has no entry. The arrays are looked into where they lie: a copy of them would cost more than the look.
 fn each_at(x: Each, bank: usize) -> Once
@@ -57,56 +64,57 @@ fn each_at(x: Each, bank: usize) -> Once
 }
 
 pub fn of_once(x: Once) -> Found
-    ensures { λ r. ⌜ r ≡ foundAs (x .seen) (x .at) 0 ⌝ }
+    ensures { λ r. ⌜ r ≡ foundAs (x .seen) (x .at) noModes ⌝ }
 {
     Found {
         seen: x.seen,
         at: x.at,
-        mr2: 0,
+        modes: NO_MODES,
     }
 }
 
 pub fn of_noted(x: Noted) -> Found
-    ensures { λ r. ⌜ r ≡ foundAs (x .seen) (x .at) (x .mr2) ⌝ }
+    ensures { λ r. ⌜ r ≡ foundAs (x .seen) (x .at) (x .modes) ⌝ }
 {
+    let modes = x.modes;
     Found {
         seen: x.seen,
         at: x.at,
-        mr2: x.mr2,
+        modes: modes,
     }
 }
 
 fn of_each(x: Each, bank: usize) -> Found
-    ensures { λ r. ⌜ r ≡ foundAs (getD (x .seen) bank false) (getD (x .at) bank 0) 0 ⌝ }
+    ensures { λ r. ⌜ r ≡ foundAs (getD (x .seen) bank false) (getD (x .at) bank 0) noModes ⌝ }
 {
     of_once(each_at(x, bank))
 }
 
 fn of_noted_each(x: NotedEach, bank: usize) -> Found
-    ensures { λ r. ⌜ r ≡ foundAs (getD (x .seen) bank false) (getD (x .at) bank 0) (getD (x .mr2) bank 0) ⌝ }
+    ensures { λ r. ⌜ r ≡ foundAs (getD (x .seen) bank false) (getD (x .at) bank 0) (getD (x .modes) bank noModes) ⌝ }
 {
     if 7 < bank {
         return Found {
             seen: false,
             at: 0,
-            mr2: 0,
+            modes: NO_MODES,
         };
     }
     Found {
         seen: x.seen[bank],
         at: x.at[bank],
-        mr2: x.mr2[bank],
+        modes: x.modes[bank],
     }
 }
 
 // A precharge counts unless the other kind came later.
 fn unless_later(x: Once, other: Once) -> Found
-    ensures { λ r. ⌜ r ≡ foundAs (x .seen && not (outweighed (x .seen) (other .seen) (x .at) (other .at))) (x .at) 0 ⌝ }
+    ensures { λ r. ⌜ r ≡ foundAs (x .seen && not (outweighed (x .seen) (other .seen) (x .at) (other .at))) (x .at) noModes ⌝ }
 {
     Found {
         seen: x.seen & !(x.seen & other.seen & (x.at < other.at)),
         at: x.at,
-        mr2: 0,
+        modes: NO_MODES,
     }
 }
 
@@ -128,7 +136,7 @@ fn of_four(x: Four) -> Found
     Found {
         seen: 4 <= x.count,
         at: x.at[3],
-        mr2: 0,
+        modes: NO_MODES,
     }
 }
 

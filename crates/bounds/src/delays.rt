@@ -5,6 +5,7 @@ ghost use Prim.Native.Nat.{_<_, _^_};
 ghost use lib.Dec.{eqb};
 ghost use Rattle.rules.specs.Folds.{permittedBy};
 ghost use Rattle.rules.specs.Lent.{lookIn};
+ghost use Rattle.card.specs.Values.{modesOf};
 ghost use Rattle.bank.specs.Values.{shareOf};
 ghost use Rattle.bounds.specs.declared.delays.Lag.the-variants.{Plain};
 ghost use Rattle.bounds.specs.Parts.{delayIn, permittedAfter, sourcesOf, spanOf, answerOf, askedFor};
@@ -13,32 +14,39 @@ use crate::answers::Found;
 use crate::answers::look;
 use crate::spans::Span;
 use bank::Share;
+use card::Modes;
 
-// What RL and WL as at the entry make of a delay: nothing; WL is added; RL is added and WL taken off.
+// What the mode registers as at the entry make of a delay: nothing; WL is added; RL is added and WL taken off; WL and nWR are added, n(tWR), which it holds,
+// where none is programmed.
 pub enum Lag {
     Plain,
     Written,
     Turned,
+    Recovered(u32),
 }
 
-fn delay_by(lag: Lag, clocks: u64, mr2: u8) -> u64
+fn delay_by(lag: Lag, clocks: u64, modes: Modes) -> u64
     requires { ⌜ clocks < 2 ^ 40 ⌝ }
-    ensures { λ r. ⌜ (r ≡ delayIn lag clocks mr2) × (r < 2 ^ 41) ⌝ }
+    ensures { λ r. ⌜ (r ≡ delayIn lag clocks (modesOf modes)) × (r < 2 ^ 41) ⌝ }
 {
     match lag {
         Lag::Plain => clocks,
         Lag::Written => {
-            let x = card::latency_of(mr2);
+            let x = card::latency_of(modes.mr2);
             x.wl as u64 + clocks
         }
         Lag::Turned => {
-            let x = card::latency_of(mr2);
+            let x = card::latency_of(modes.mr2);
             let sum = x.rl as u64 + clocks;
             let wl = x.wl as u64;
             if sum < wl {
                 return 0;
             }
             sum - wl
+        }
+        Lag::Recovered(twr) => {
+            let x = card::latency_of(modes.mr2);
+            x.wl as u64 + card::nwr_of(modes, twr) as u64 + clocks
         }
     }
 }
@@ -50,7 +58,7 @@ pub fn permits(found: Found, lag: Lag, clocks: u64) -> u64
     if !found.seen {
         return 0;
     }
-    found.at as u64 + delay_by(lag, clocks, found.mr2)
+    found.at as u64 + delay_by(lag, clocks, found.modes)
 }
 
 fn at_bank(share: Share, ask: Ask, bank: usize, but: u16, lag: Lag, clocks: u64) -> u64
@@ -79,7 +87,7 @@ pub fn since(share: Share, ask: Ask, span: Span, lag: Lag, clocks: u64) -> u64
     best
 }
 
-// The same of a delay that does not go by RL or WL.
+// The same of a delay that does not go by the mode registers.
 pub fn plain(share: Share, ask: Ask, span: Span, clocks: u32) -> u64
     ensures { λ r. ⌜ r ≡ permittedBy (lookIn (shareOf share .history)) (sourcesOf (spanOf span) ask Plain clocks) ⌝ }
 {

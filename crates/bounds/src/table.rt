@@ -170,10 +170,15 @@ fn after_wr(share: Share, d: Delays, command: Command) -> [u64; 2]
 {
     let named = spans::named(command);
     let idle = spans::idle(command, share.counter);
-    let least = 5 + wide(d.twr);
     [
-        since(share, Ask::WrTo, named, Lag::Written, least),
-        since(share, Ask::WraTo, idle, Lag::Written, least + wide(d.trppb)),
+        since(share, Ask::WrTo, named, Lag::Written, 5 + wide(d.twr)),
+        since(
+            share,
+            Ask::WraTo,
+            idle,
+            Lag::Recovered(d.twr),
+            5 + wide(d.trppb),
+        ),
     ]
 }
 

@@ -26,12 +26,18 @@ pub is-within : (a b x : ℕ) → a ≤ x → x ≤ b → within a b x ≡ true
 unfolding within
 is-within a b x low high = rw (le-leb a x low, le-leb x b high)
 
+above-four : (t : ℕ) → 1 ≤ t → (t ≡ 1 → ⊥) → (t ≡ 2 → ⊥) → (t ≡ 3 → ⊥) → (t ≡ 4 → ⊥) → 5 ≤ t
+above-four t low a b c d = omega arith
+
+below-start : (t : ℕ) → t ≤ 23 → (t ≡ 23 → ⊥) → t ≤ 22
+below-start t high s = omega arith
+
 -- a card's tag that is none of a number's is a timing's
-pub a-timing : (t : ℕ) → ofCard t ≡ true → (t ≡ 1 → ⊥) → (t ≡ 2 → ⊥) → (t ≡ 3 → ⊥) → (t ≡ 4 → ⊥) → (t ≡ 25 → ⊥) → (t ≡ 26 → ⊥) → (5 ≤ t) × (t ≤ 22)
+pub a-timing : (t : ℕ) → ofCard t ≡ true → (t ≡ 1 → ⊥) → (t ≡ 2 → ⊥) → (t ≡ 3 → ⊥) → (t ≡ 4 → ⊥) → (t ≡ 23 → ⊥) → (t ≡ 25 → ⊥) → (t ≡ 26 → ⊥) → (5 ≤ t) × (t ≤ 22)
 unfolding ofCard
-a-timing t e a b c d f g =
-    let (low, high) = within-both 1 22 t (rw (ne-eqb t 25 f, ne-eqb t 26 g, or-false (within 1 22 t), or-false (within 1 22 t)) at e) in
-    (omega arith, high)
+a-timing t e a b c d s f g =
+    let (low, high) = within-both 1 23 t (rw (ne-eqb t 25 f, ne-eqb t 26 g, or-false (within 1 23 t), or-false (within 1 23 t)) at e) in
+    (above-four t low a b c d, below-start t high s)
 
 -- what holds of each row holds of a tag and a length that are listed
 pub listed-has : (p : ℕ → ℕ → Bool) (xs : List Listed) (t l : ℕ)

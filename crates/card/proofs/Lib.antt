@@ -3,6 +3,7 @@
 pub mod Columns
 pub mod Fits
 pub mod Found
+pub mod Recovered
 pub mod Groups
 pub mod Lengths
 pub mod Numbers

@@ -1,7 +1,7 @@
 -- Big-endian numbers, byte by byte, and the numbers that fit their places in the card.
 use Prim.Native.Nat.{ℕ, _+_, _*_, _^_, _≤_, _<_}
-use mathlib.Core.Path.{_≡_}
-use mathlib.Core.Bool.{Bool, true, _&&_}
+use mathlib.Core.Path.{_≡_, refl}
+use mathlib.Core.Bool.{Bool, true, false, not, _&&_, _||_}
 use mathlib.Core.List.{List}
 use native.Mathlib.Nat.{zero-add, mul-le-mul}
 use native.Mathlib.Numerals.{add-one}
@@ -10,12 +10,13 @@ use lib.Dec.{leb}
 use lib.ListN.{length, getD, drop, drop-of-length-le}
 use lib.Seq.{drop-cons}
 use lib.Pow.{pow-add, pow-mono}
-use borrow.Author.Tests.{leb-true, ltb-true}
-use Rattle.rules.specs.Registers.{mr2Good}
-use Rattle.rules.specs.Ranges.{groupsGood}
+use borrow.Author.Tests.{leb-true, ltb-true, le-leb}
+use Rattle.rules.specs.Registers.{mr2Good, mr1Good}
+use Rattle.rules.specs.Ranges.{groupsGood, startGood, mr1Start}
 use Rattle.rules.specs.Form.{number, numberFrom}
 use Rattle.rules.proofs.Tests.{both-true}
 use Rattle.rules.proofs.Rounding.{within-both}
+use Rattle.card.specs.Values.{mr1If}
 
 pub next-byte : (v : List ℕ) (i x : ℕ) → i < length v → numberFrom x (drop i v) ≡ numberFrom (256 * x + getD v i 0) (drop (i + 1) v)
 unfolding numberFrom
@@ -40,6 +41,16 @@ last-byte v h = rw (drop-cons v 4 0 (omega arith), drop-of-length-le v {i = 5} (
 pub mr2-byte : (p x : ℕ) → mr2Good p x ≡ true → x < 256
 unfolding mr2Good
 mr2-byte p x e = ltb-true x 256 (both-true _ _ (both-true _ _ (both-true _ _ e .0) .0) .0)
+
+pub start-byte : (x : ℕ) → startGood x ≡ true → x ≤ 255
+unfolding startGood
+start-byte x e = leb-true x 255 (both-true _ _ e .0)
+
+-- the starting MR1, if there is one
+pub start-good : (b : Bool) (v : ℕ) → v ≤ 255 → (not b || mr1Good v) ≡ mr1Start (mr1If b v)
+unfolding mr1If mr1Start startGood
+start-good true v h = rw (le-leb v 255 h)
+start-good false v h = refl
 
 pub groups-short : (x : ℕ) → groupsGood x ≡ true → x ≤ 16384
 unfolding groupsGood

@@ -9,6 +9,7 @@ use Rattle.card.proofs.ranges.in_range as in-range
 use Rattle.card.proofs.registers.latency_of as latency-of
 use Rattle.card.proofs.registers.mrw_value_good as mrw-value-good
 use Rattle.card.proofs.registers.mr2_good as mr2-good
+use Rattle.card.proofs.registers.nwr_of as nwr-of
 use Rattle.card.proofs.timings.delays_at as delays-at
 use Rattle.card.proofs.timings.interval_at as interval-at
 use Rattle.card.proofs.heat.mr4_good as mr4-good
@@ -50,6 +51,12 @@ pub latency-of-determined : Determined latency-of.ended latency-of-says
 latency-of-determined =
     determined latency-of.ended latency-of-says (λ κs a r e. fact-of _)
     (λ κs a r r′ ws ws′ p p′. (λ i. record { rl = (p .0 ∙ sym (p′ .0)) i; wl = (p .1 ∙ sym (p′ .1)) i }, refl))
+
+abbrev nwr-of-says : Promise nwr-of.ended
+nwr-of-says w = nwr-of.clauses (w .𝓤) (w .H) (w .𝓖 .A) (w .𝓜 .mem) (w .𝓡 .run)
+
+pub nwr-of-determined : Determined nwr-of.ended nwr-of-says
+nwr-of-determined = determined nwr-of.ended nwr-of-says (λ κs a r e. fact-of _) (λ κs a r r′ ws ws′ p p′. (p ∙ sym p′, refl))
 
 abbrev interval-at-says : Promise interval-at.ended
 interval-at-says w = interval-at.clauses (w .𝓤) (w .H) (w .𝓖 .A) (w .𝓜 .mem) (w .𝓡 .run)

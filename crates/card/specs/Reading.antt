@@ -8,7 +8,7 @@ use lib.Dec.{leb, eqb}
 use lib.ListN.{length, set, replicate}
 use Rattle.rules.specs.Card as paper
 use Rattle.rules.specs.Registers.{mr2Good}
-use Rattle.rules.specs.Ranges.{within, periodGood, groupsGood, trefiGood, timingGood, raiseGood}
+use Rattle.rules.specs.Ranges.{within, periodGood, groupsGood, trefiGood, timingGood, startGood, raiseGood}
 use Rattle.rules.specs.Folds.{firstOf}
 use Rattle.rules.specs.Checks.{Refusal, unless}
 use Rattle.rules.specs.Form.{number, timingOf, lengthGood}
@@ -17,23 +17,24 @@ use Rattle.card.specs.declared.Read.{Read}
 
 -- a tag of the card
 unfoldable pub ofCard : (tag : ℕ) → Bool
-ofCard t = within 1 22 t || eqb t 25 || eqb t 26
+ofCard t = within 1 23 t || eqb t 25 || eqb t 26
 
 -- the listed length of a tag; 0 where there is no such tag
 unfoldable pub sizeOf : ℕ → ℕ
 sizeOf t =
     cond (eqb t 1 || eqb t 4 || eqb t 26 || eqb t 33) 4
-    (cond (eqb t 2 || eqb t 25) 1 (cond (eqb t 3) 2 (cond (within 5 22 t || eqb t 34) 5 (cond (eqb t 32) 7 0))))
+    (cond (eqb t 2 || eqb t 23 || eqb t 25) 1 (cond (eqb t 3) 2 (cond (within 5 22 t || eqb t 34) 5 (cond (eqb t 32) 7 0))))
 
--- whether a value is in range: tags 1 to 4, 25 and 26 are the number x, tags 5 to 22 the timing y; sleeps and period are those read before
+-- whether a value is in range: tags 1 to 4, 23, 25 and 26 are the number x, tags 5 to 22 the timing y; sleeps and period are those read before
 unfoldable pub good : (sleeps : Bool) → (period tag x : ℕ) → paper.Timing → Bool
 good s p t x y =
     cond (eqb t 1) (periodGood x)
     (cond (eqb t 2) (mr2Good p x)
     (cond (eqb t 3) (groupsGood x)
     (cond (eqb t 4) (trefiGood p x)
+    (cond (eqb t 23) (startGood x)
     (cond (eqb t 25) (leb x 255 && not s)
-    (cond (eqb t 26) (raiseGood x) (timingGood y))))))
+    (cond (eqb t 26) (raiseGood x) (timingGood y)))))))
 
 -- the card with the value of this tag in it
 unfoldable pub put : Card → (tag x : ℕ) → paper.Timing → Card
@@ -45,6 +46,8 @@ put c t x y = record {
   durations = cond (within 5 22 t) (set (c .durations) (t - 5) (y .duration)) (c .durations);
   floors = cond (within 5 22 t) (set (c .floors) (t - 5) (y .floor)) (c .floors);
   sleeps = eqb t 19 || c .sleeps;
+  programmed = eqb t 23 || c .programmed;
+  mr1 = cond (eqb t 23) x (c .mr1);
   paired = eqb t 25 || c .paired;
   gap = cond (eqb t 25) x (c .gap);
   raise = cond (eqb t 26) x (c .raise);
@@ -94,6 +97,8 @@ blankCard = record {
   durations = replicate 18 0;
   floors = replicate 18 0;
   sleeps = false;
+  programmed = false;
+  mr1 = 0;
   paired = false;
   gap = 0;
   raise = 0;

@@ -1,5 +1,5 @@
--- The rows of the code's table, as the rules' rows have them.
-use Prim.Native.Nat.{ℕ}
+-- The rows of the code's tables, as the rules' rows have them.
+use Prim.Native.Nat.{ℕ, _+_, _*_, _/_, _%_}
 use mathlib.Core.Bool.{Bool, false}
 use lib.Dec.{leb}
 use Rattle.rules.specs.Bits.{bits}
@@ -22,3 +22,10 @@ foundAt v = foundBy (bits v 0 4)
 -- OP3-0 of this MR2 is a code whose least period does not exceed this one
 unfoldable pub codeGood : (period mr2 : ℕ) → Bool
 codeGood p v = paper.atCode (bits v 0 4) (λ x. leb (x .least) p) false paper.latencies
+
+-- OP4 of MR2 before OP7-5 of MR1, and nWR of such a pair
+unfoldable pub pairOf : (mr2 mr1 : ℕ) → ℕ
+pairOf v w = bits v 4 1 * 8 + bits w 5 3
+
+unfoldable pub recoveryAt : (pair twr : ℕ) → ℕ
+recoveryAt p d = paper.atPair (p / 8) (p % 8) d paper.recoveries

@@ -1,10 +1,14 @@
 -- The card and the delays of the code, read as the rules' own.
 use Prim.Native.Nat.{ℕ, min}
+use mathlib.Core.Bool.{Bool, cond}
+use mathlib.Core.Option.{Option, none, some}
 use lib.ListN.{getD}
 use Rattle.rules.specs.Card as paper
 use Rattle.rules.specs.Units as units
+use Rattle.rules.specs.Registers as registers
 use Rattle.card.specs.declared.Card.{Card}
 use Rattle.card.specs.declared.Delays.{Delays}
+use Rattle.card.specs.declared.Modes.{Modes}
 
 abbrev pub timing : (duration floor : ℕ) → paper.Timing
 timing d f = record { duration = d; floor = f }
@@ -12,6 +16,13 @@ timing d f = record { duration = d; floor = f }
 -- a timing by its place in the two columns
 unfoldable pub timingIn : Card → ℕ → paper.Timing
 timingIn card k = timing (getD (card .durations) k 0) (getD (card .floors) k 0)
+
+-- MR1, if there is one
+unfoldable pub mr1If : (programmed : Bool) → (mr1 : ℕ) → Option ℕ
+mr1If p v = cond p (some v) none
+
+unfoldable pub modesOf : Modes → registers.Modes
+modesOf m = record { mr2 = m .mr2; mr1 = mr1If (m .programmed) (m .mr1) }
 
 unfoldable pub cardOf : Card → paper.Card
 cardOf card = record {
@@ -38,6 +49,7 @@ cardOf card = record {
   txp = timingIn card 15;
   tckesr = timingIn card 16;
   txsr = timingIn card 17;
+  mr1 = mr1If (card .programmed) (card .mr1);
   paired = card .paired;
   gap = card .gap;
   raise = card .raise;

@@ -1,4 +1,4 @@
-// Document 01's bench card, which has neither tags 19 to 22 nor tag 25 or 26.
+// Document 01's bench card, which has no tag above 18.
 ghost use mathlib.Core.Path.{_≡_};
 ghost use Rattle.card.specs.Bench.{benchCard};
 use crate::Card;
@@ -33,6 +33,8 @@ pub fn bench() -> Card
         ],
         floors: [3, 3, 3, 3, 2, 8, 4, 4, 4, 0, 0, 0, 4, 10, 0, 0, 0, 0],
         sleeps: false,
+        programmed: false,
+        mr1: 0,
         paired: false,
         gap: 0,
         raise: 0,

@@ -1,4 +1,4 @@
-// The device card by value: the ranges of its values, the latencies of MR2, its delays in clocks by the temperature, and its fields read from bytes.
+// The device card by value: the ranges of its values, the latencies of MR2, nWR by MR1 and MR2, its delays in clocks by the temperature, and its fields read from bytes.
 mod benched;
 mod heat;
 mod ranges;
@@ -14,6 +14,7 @@ pub use ranges::in_range;
 pub use registers::latency_of;
 pub use registers::mr2_good;
 pub use registers::mrw_value_good;
+pub use registers::nwr_of;
 pub use tags::may_come;
 pub use timings::delays_at;
 pub use timings::interval_at;
@@ -27,7 +28,8 @@ pub struct Picoseconds(pub u64);
 pub struct Clocks(pub u64);
 
 // `durations` and `floors` are the two columns of tags 5 to 22: trcd, trppb, trpab, tras, trrd, tfaw, trtp, twr, twtr, tdqsck,
-// trfcab, trfcpb, tmrr, tmrw, tcke, txp, tckesr, txsr. `sleeps`: tags 19 to 22 are there. `paired`: tag 25 is there; `gap`: its clocks between
+// trfcab, trfcpb, tmrr, tmrw, tcke, txp, tckesr, txsr. `sleeps`: tags 19 to 22 are there. `programmed`: tag 23 is there; `mr1`: its
+// starting MR1. `paired`: tag 25 is there; `gap`: its clocks between
 // the two parts. `raise`: tag 26, what the hottest code of MR4 adds to the first five durations; 0 where the card has none.
 pub struct Card {
     pub period: u32,
@@ -37,6 +39,8 @@ pub struct Card {
     pub durations: [u32; 18],
     pub floors: [u8; 18],
     pub sleeps: bool,
+    pub programmed: bool,
+    pub mr1: u8,
     pub paired: bool,
     pub gap: u8,
     pub raise: u32,
@@ -64,6 +68,13 @@ pub struct Delays {
     pub tckesr: u32,
     pub txsr: u32,
     pub gap: u32,
+}
+
+// The mode registers that the delay rules go by. `programmed`: MR1 was written, or the card has one; else `mr1` is not looked at.
+pub struct Modes {
+    pub mr2: u8,
+    pub programmed: bool,
+    pub mr1: u8,
 }
 
 pub struct Latency {

@@ -6,6 +6,7 @@ ghost use Rattle.rules.specs.Ranges as paper;
 ghost use Rattle.card.specs.Reading.{good};
 ghost use Rattle.card.specs.Values.{cardOf, timing};
 use crate::Card;
+use crate::registers::mr1_good;
 use crate::registers::mr2_good;
 
 fn within(low: u32, high: u32, x: u32) -> bool
@@ -40,6 +41,12 @@ pub fn value_good(sleeps: bool, period: u32, tag: u8, x: u32, floor: u8) -> bool
     if tag == 4 {
         return within(period, 20_000_000, x);
     }
+    if tag == 23 {
+        if 255 < x {
+            return false;
+        }
+        return mr1_good(x as u8);
+    }
     if tag == 25 {
         return (x <= 255) & !sleeps;
     }
@@ -71,5 +78,6 @@ pub fn in_range(card: Card) -> bool
         & value_good(card.sleeps, card.period, 4, card.trefi, 0)
         & (timings_good(card)
             & (!(card.sleeps & card.paired)
-                & value_good(card.sleeps, card.period, 26, card.raise, 0)))
+                & value_good(card.sleeps, card.period, 26, card.raise, 0)
+                & (!card.programmed | mr1_good(card.mr1))))
 }

@@ -1,8 +1,10 @@
-// The latencies that MR2 sets, and what MRW may write.
+// The latencies that MR2 sets, nWR, which MR1 sets with it, and what MRW may write.
 ghost use mathlib.Core.Path.{_≡_};
-ghost use Rattle.rules.specs.Registers.{mr2Good, rlOf, wlOf, mayWrite};
-ghost use Rattle.card.specs.Rows.{foundAt, codeGood};
+ghost use Rattle.rules.specs.Registers.{mr2Good, rlOf, wlOf, mr1Good, nwrOf, mayWrite};
+ghost use Rattle.card.specs.Rows.{foundAt, codeGood, pairOf, recoveryAt};
+ghost use Rattle.card.specs.Values.{modesOf};
 use crate::Latency;
+use crate::Modes;
 
 // A row of the table: the code in MR2's OP3-0, the least period in ps that it may stand with, RL, and WL of set A and of set B.
 pub struct Row(u8, u32, u8, u8, u8);
@@ -97,12 +99,53 @@ pub fn latency_of(mr2: u8) -> Latency
     }
 }
 
+// OP4 of MR2 before OP7-5 of MR1.
+fn pair_of(mr2: u8, mr1: u8) -> u8
+    ensures { λ r. ⌜ r ≡ pairOf mr2 mr1 ⌝ }
+{
+    mr2 / 16 % 2 * 8 + mr1 / 32
+}
+
+// nWR of a pair; `twr` where it is not listed.
+fn recovery_at(pair: u8, twr: u32) -> u32
+    ensures { λ r. ⌜ r ≡ recoveryAt pair twr ⌝ }
+{
+    match pair {
+        0b0001 => 3,
+        0b0100 => 6,
+        0b0110 => 8,
+        0b0111 => 9,
+        0b1000 => 10,
+        0b1001 => 11,
+        0b1010 => 12,
+        0b1100 => 14,
+        0b1110 => 16,
+        _ => twr,
+    }
+}
+
+// nWR, where `twr` is n(tWR): it counts for a pair that is not listed, and where there is no MR1.
+pub fn nwr_of(modes: Modes, twr: u32) -> u32
+    ensures { λ r. ⌜ r ≡ nwrOf twr (modesOf modes) ⌝ }
+{
+    if !modes.programmed {
+        return twr;
+    }
+    recovery_at(pair_of(modes.mr2, modes.mr1), twr)
+}
+
+pub fn mr1_good(value: u8) -> bool
+    ensures { λ r. ⌜ r ≡ mr1Good value ⌝ }
+{
+    value % 8 == 3
+}
+
 // What 9 asks of a value: only MA 1 and 2 ask anything of it; whether an MA is listed is 7's question.
 pub fn mrw_value_good(period: u32, ma: u8, op: u8) -> bool
     ensures { λ r. ⌜ r ≡ mayWrite period ma op ⌝ }
 {
     if ma == 1 {
-        return op % 8 == 3;
+        return mr1_good(op);
     }
     if ma == 2 {
         return mr2_good(period, op);

@@ -6,19 +6,19 @@ ghost use Rattle.card.specs.Reading.{ofCard};
 pub fn of_card(tag: u8) -> bool
     ensures { λ r. ⌜ r ≡ ofCard tag ⌝ }
 {
-    ((1 <= tag) & (tag <= 22)) | (tag == 25) | (tag == 26)
+    ((1 <= tag) & (tag <= 23)) | (tag == 25) | (tag == 26)
 }
 
 fn ends_group(tag: u8) -> bool
     ensures { λ r. ⌜ r ≡ form.endsGroup form.groups tag ⌝ }
 {
-    (tag == 18) | (tag == 22) | (tag == 25) | (tag == 26)
+    (tag == 18) | (tag == 22) | (tag == 23) | (tag == 25) | (tag == 26)
 }
 
 fn begins_group(tag: u8) -> bool
     ensures { λ r. ⌜ r ≡ form.beginsGroup form.groups tag ⌝ }
 {
-    (tag == 1) | (tag == 19) | (tag == 25) | (tag == 26)
+    (tag == 1) | (tag == 19) | (tag == 23) | (tag == 25) | (tag == 26)
 }
 
 // Whether this tag may come behind the tag of the card's newest field, 0 before the first; `begun`: an entry has come.

@@ -18,7 +18,7 @@ fn listed(tag: u8) -> usize
     if (tag == 1) | (tag == 4) | (tag == 26) | (tag == 33) {
         return 4;
     }
-    if (tag == 2) | (tag == 25) {
+    if (tag == 2) | (tag == 23) | (tag == 25) {
         return 1;
     }
     if tag == 3 {
@@ -60,7 +60,7 @@ fn number(bytes: &[u8]) -> u32
     x
 }
 
-// The whole value of tags 1 to 4, 25 and 26, and the duration of a timing.
+// The whole value of tags 1 to 4, 23, 25 and 26, and the duration of a timing.
 fn first_four(value: &[u8]) -> u32
     ensures { λ r. ⌜ r ≡ form.number (take 4 (now (value .entry))) ⌝ }
 {
@@ -112,6 +112,11 @@ fn put(card: Card, tag: u8, x: u32, floor: u8) -> Card
     }
     if tag == 4 {
         next.trefi = x;
+        return next;
+    }
+    if tag == 23 {
+        next.programmed = true;
+        next.mr1 = x as u8;
         return next;
     }
     if tag == 25 {
@@ -173,6 +178,8 @@ pub fn blank() -> Card
         durations: [0; 18],
         floors: [0; 18],
         sleeps: false,
+        programmed: false,
+        mr1: 0,
         paired: false,
         gap: 0,
         raise: 0,

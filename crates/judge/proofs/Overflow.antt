@@ -35,7 +35,7 @@ entry-tag t = go (eqb t 32) refl
 
 listed-small : (t : ℕ) → reading.sizeOf t ≤ 7
 unfolding reading.sizeOf
-listed-small t = go (eqb t 1 || eqb t 4 || eqb t 26 || eqb t 33) (eqb t 2 || eqb t 25) (eqb t 3) (within 5 22 t || eqb t 34) (eqb t 32)
+listed-small t = go (eqb t 1 || eqb t 4 || eqb t 26 || eqb t 33) (eqb t 2 || eqb t 23 || eqb t 25) (eqb t 3) (within 5 22 t || eqb t 34) (eqb t 32)
   where
     go : (a b c d e : Bool) → cond a 4 (cond b 1 (cond c 2 (cond d 5 (cond e 7 0)))) ≤ 7
     go true b c d e = omega arith

@@ -51,14 +51,14 @@ module _ {st : State} {fs : List Field} {past : Past} {at : ℕ} (s : Stands st 
   right g = (form-first, o, g, s .card)
 
   pub tag-in : f .tag ≤ 26
-  tag-in = ⊎-elim (λ (h : f .tag ≤ 22). omega arith) (⊎-elim (λ (h : f .tag ≡ 25). omega arith) (λ (h : f .tag ≡ 26). omega arith)) (card-tag fs f (s .card) form o .1)
+  tag-in = ⊎-elim (λ (h : f .tag ≤ 23). omega arith) (⊎-elim (λ (h : f .tag ≡ 25). omega arith) (λ (h : f .tag ≡ 26). omega arith)) (card-tag fs f (s .card) form o .1)
 
   of-a-card : ofCard (f .tag) ≡ true
   unfolding ofCard within
   of-a-card =
       let t = card-tag fs f (s .card) form o in
       ⊎-elim
-      (λ (h : f .tag ≤ 22). rw (le-leb 1 (f .tag) (t .0), le-leb (f .tag) 22 h))
+      (λ (h : f .tag ≤ 23). rw (le-leb 1 (f .tag) (t .0), le-leb (f .tag) 23 h))
       (⊎-elim (λ (h : f .tag ≡ 25). rw (eq-eqb (f .tag) 25 h, or-true)) (λ (h : f .tag ≡ 26). rw (eq-eqb (f .tag) 26 h, or-true)))
       (t .1)
 

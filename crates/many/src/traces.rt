@@ -90,6 +90,20 @@ fn judge_some(state: State, buf: &mut [u8], have: usize, left: usize) -> Half
     }
 }
 
+// The bytes that are held; none are looked at behind a verdict.
+fn judge_on(at: Half, buf: &mut [u8], have: usize, left: usize) -> Half
+    requires { ⌜ (have ≤ length (now buf)) × (10 ≤ length (now buf)) ⌝ }
+    ensures { λ r. ⌜ (r .have < length (now (buf .exit))) × (r .left ≡ left) ⌝ }
+{
+    let what = at.what;
+    let state = at.state;
+    match what {
+        What::Over(_) => gone_on(what, state, 0, left),
+        What::More => judge_some(state, buf, have, left),
+        What::Full => judge_some(state, buf, have, left),
+    }
+}
+
 // One read, and what it makes of the trace.
 fn turn(at: Half, buf: &mut [u8]) -> Half
     requires { ⌜ (at .have < length (now buf)) × (10 ≤ length (now buf)) × (0 < at .left) ⌝ }
@@ -101,14 +115,7 @@ fn turn(at: Half, buf: &mut [u8]) -> Half
     if got == 0 {
         return cut_off(at);
     }
-    let what = at.what;
-    let state = at.state;
-    let left = at.left - got;
-    match what {
-        What::Over(_) => gone_on(what, state, 0, left),
-        What::More => judge_some(state, buf, have + got, left),
-        What::Full => judge_some(state, buf, have + got, left),
-    }
+    judge_on(at, buf, have + got, at.left - got)
 }
 
 fn verdict_of(at: Half, buf: &[u8]) -> Verdict

@@ -1,5 +1,5 @@
--- The judge as it was before two parts could share a bus: what request Nine changed in the judge of `Mild`. The rows of rules 1 to 24 are today's: they ask the
--- own part alone.
+-- The judge as it was before two parts could share a bus: what request Nine changed in the judge of `Mild`. The rows of rules 1 to 24 are that judge's: they ask
+-- the own part alone.
 use Prim.Native.Nat.{ℕ, suc}
 use mathlib.Core.Bool.{Bool, cond, not}
 use mathlib.Core.List.{List, [], _∷_, _++_}
@@ -9,14 +9,14 @@ use lib.ListN.{length, take}
 use Rattle.rules.specs.Card.{Card}
 use Rattle.rules.specs.Units.{Delays, delaysOf}
 use Rattle.rules.specs.Commands.{Command, kindOf, apOf}
-use Rattle.rules.specs.Registers.{mr2Good}
+use Rattle.rules.specs.Registers.{mr2Good, Modes}
 use Rattle.rules.specs.Ranges.{periodGood, groupsGood, trefiGood, timingGood}
 use Rattle.rules.specs.Whose.{sole}
 use Rattle.rules.specs.Levels.{Move, Read, readPins}
 use Rattle.rules.specs.Past.{Taken, Past, levelAt, counterAt, bankAt, isOpen, countedStamps, commandCount}
 use Rattle.rules.specs.States.{stateGood}
 use Rattle.rules.specs.Folds.{firstOf, Rule, firstBroken}
-use Rattle.rules.specs.Delays.{Asked, Answers, Lookup, lookBoth, find, delayRules}
+use Rattle.rules.specs.Delays.{Asked, Answers, Lookup, lookBoth, find}
 use Rattle.rules.specs.Account.{lpddr3, ledgerOn, failingIn, firstIn}
 use Rattle.rules.specs.Entries.{Entry, recordedAs, moveOf, judgedAs}
 use Rattle.rules.specs.Checks.{Refusal, unless, named, isWrong, isReserved, isBarred, valueGood, above, notBelow}
@@ -24,7 +24,8 @@ use Rattle.rules.specs.Form.{Field, Group, _upTo_, Listed, _of_, number,
 use Rattle.rules.specs.File.{FileVerdict, accepted}
 use Rattle.rules.specs.Lines.{decimal, nameOf, showsBank, verdictLine}
 use Rattle.rules.proofs.Walks.{Judge, judgedBy}
-use Rattle.rules.proofs.Mild.{pinsOf, mildBook, comeIn}
+use Rattle.rules.proofs.Timed.{timedRules, comeIn}
+use Rattle.rules.proofs.Mild.{pinsOf, mildBook, mildTrace}
 
 -- ---- an entry goes by its card, the level and its pins, and all are of the one part
 unfoldable pub aloneRead : Card → Past → Entry → Read
@@ -40,8 +41,8 @@ noAnswer q = none
 unfoldable pub aloneLook : Card → Past → Lookup
 aloneLook card past = lookBoth (find card past) noAnswer
 
-unfoldable pub aloneRules : Delays → Command → Move → ℕ → List (Rule Asked ℕ)
-aloneRules d c m n = take 22 (delayRules d c m n)
+unfoldable pub aloneRules : Delays → Command → Move → ℕ → List (Rule Asked Modes)
+aloneRules d c m n = take 22 (timedRules d c m n)
 
 unfoldable pub aloneEntry : Card → Past → Entry → Option Refusal
 aloneEntry card past e =
@@ -89,7 +90,7 @@ aloneGood fs f =
 
 unfoldable pub alone : Judge
 alone = record {
-  come = comeIn aloneGroups;
+  come = comeIn mildTrace aloneGroups;
   entry = aloneEntry;
   taken = aloneTaken;
   end = aloneEnd;

@@ -11,6 +11,7 @@ use Rattle.rules.specs.Lists.{isOneOf}
 use Rattle.rules.specs.Card.{Card}
 use Rattle.rules.specs.Units.{Delays, interval, delaysOf}
 use Rattle.rules.specs.Commands.{Command}
+use Rattle.rules.specs.Registers.{Modes}
 use Rattle.rules.specs.Pins.{decode}
 use Rattle.rules.specs.Whose.{sole}
 use Rattle.rules.specs.Levels.{stays, plain}
@@ -56,7 +57,7 @@ unfoldable pub baseTaken : Entry → Taken
 baseTaken e = record { stamp = e .stamp; cmd = commandOf (decode (pinsOf e)); move = stays; whose = sole; mr4 = none }
 
 -- rules 1 to 18
-unfoldable pub baseRules : Delays → Command → ℕ → List (Rule Asked ℕ)
+unfoldable pub baseRules : Delays → Command → ℕ → List (Rule Asked Modes)
 baseRules d c n = take 18 (aloneRules d c stays n)
 
 unfoldable pub baseEntry : Card → Past → Entry → Option Refusal

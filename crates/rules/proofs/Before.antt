@@ -1,6 +1,7 @@
 -- A file that does not use low clock-enable has the verdict and the lines that document 01's judge gave it: every file had, just before request Nine, unless
--- tag 19 stands behind its card, where that judge refused it by 2. By `Untagged` every file has still, unless tag 19, 25, 26 or 34 stands so.
-use Prim.Native.Nat.{ℕ, zero, suc, _+_, _-_, _≤_}
+-- tag 19 stands behind its card, where that judge refused it by 2. By `Untagged` every file has still, unless tag 19, 23, 25, 26 or 34 stands so or an
+-- entry that was taken writes MA 1.
+use Prim.Native.Nat.{ℕ, zero, suc, _+_, _-_, _≤_, _<_}
 use mathlib.Core.Path.{_≡_, refl, ap, sym, _∙_, fun-ext}
 use mathlib.Core.Logic.{_⊎_, ⊎-elim}
 use mathlib.Core.Bool.{Bool, true, false, cond, not, _&&_, _||_, and-false, or-false}
@@ -15,6 +16,7 @@ use Rattle.rules.specs.Lists.{all, when, Every}
 use Rattle.rules.specs.Card.{Card}
 use Rattle.rules.specs.Units.{Delays, interval, delaysOf}
 use Rattle.rules.specs.Commands.{NOP, REFPB, REFAB, Command, is}
+use Rattle.rules.specs.Registers.{Modes}
 use Rattle.rules.specs.Pins.{decode}
 use Rattle.rules.specs.Levels.{awake, powerDown, selfRefresh, stopped, stays, Move, isFall, isRise, risesFrom, levelAfter, plain, readPins}
 use Rattle.rules.specs.Past.{Taken, Past, bankAt, levelAt, counterAfter, counterAt, countedStamps}
@@ -33,8 +35,10 @@ use Rattle.rules.proofs.Biased.{numbered}
 use Rattle.rules.proofs.Clocks.{Counting, counted-all}
 use Rattle.rules.proofs.Decided.{failing-one, first-one}
 use Rattle.rules.proofs.Walks.{judgedBy, Met, TagTests, tests-as, still-comes, Alike, agree, behind-it}
-use Rattle.rules.proofs.Mild.{pinsOf, mildBook, comeIn}
-use Rattle.rules.proofs.Unheated.{card-low, come-more, Heated}
+use Rattle.rules.proofs.Timed.{timedRules, comeIn}
+use Rattle.rules.proofs.Unprogrammed.{Written, come-more, Tag23, Programmed}
+use Rattle.rules.proofs.Mild.{pinsOf, mildBook, mildTrace}
+use Rattle.rules.proofs.Unheated.{card-low, Heated}
 use Rattle.rules.proofs.Alone.{aloneRead, aloneTaken, aloneLook, aloneRules, aloneEntry, aloneEnd, aloneVerdict, aloneGroups, alone, aloneLines, linesAlone}
 use Rattle.rules.proofs.Untagged.{quiet-tail, alone-comes, Paired, alone-ever, alone-lines}
 use Rattle.rules.proofs.Base.{baseCycle, baseBefore, baseLedger, baseFailing, baseFirst, baseTaken, baseRules, baseEntry, baseEnd, baseVerdict, baseCome, base, judgeBase, linesBase}
@@ -115,7 +119,7 @@ module _ (card : Card) (past : Past) (s : Still past) where
   none-from false b d a h = refl
 
   silent : (d : Delays) (c : Command) (n : ℕ) → Every (λ q. bound (aloneLook card past) q ≡ 0) (drop 18 (aloneRules d c stays n))
-  unfolding Every aloneRules delayRules bound rule isRise isFall risesFrom
+  unfolding Every aloneRules timedRules delayRules bound rule isRise isFall risesFrom
   silent d c n = unfold when from permittedBy in refl
       & none-from (not (is NOP c)) (bankAt c n) (d .txp) lastPowerExit (no-power-exit (bankAt c n))
       & unfold when from permittedBy in refl
@@ -128,7 +132,7 @@ module _ (card : Card) (still : card .sleeps ≡ false) (past : Past) (s : Still
       firstBroken (aloneLook card past) (aloneRules d c stays n) t ≡ firstBroken (aloneLook card past) (baseRules d c n) t
   unfolding baseRules
   same-rules d c n t =
-      sym (ap (λ (l : List (Rule Asked ℕ)). firstBroken (aloneLook card past) l t) (take-append-drop 18 (aloneRules d c stays n)))
+      sym (ap (λ (l : List (Rule Asked Modes)). firstBroken (aloneLook card past) l t) (take-append-drop 18 (aloneRules d c stays n)))
       ∙ quiet-tail (aloneLook card past) t (take 18 (aloneRules d c stays n)) (drop 18 (aloneRules d c stays n)) (silent card past s d c n)
 
   read-plain : (e : Entry) → aloneRead card past e ≡ plain (decode (pinsOf e))
@@ -173,8 +177,8 @@ abbrev pub Tag19 : (entries : Bool) → List Field → ℕ → Type 0
 Tag19 entries fs t = (entries ≡ false) × (lastTag fs ≡ 18) × (t ≡ 19)
 
 -- the card is one group
-base-come : (b : Bool) (fs : List Field) (t : ℕ) → comeIn (1 upTo 18 ∷ []) b fs t ≡ baseCome fs t
-unfolding comeIn baseCome endsGroup beginsGroup _upTo_
+base-come : (b : Bool) (fs : List Field) (t : ℕ) → comeIn mildTrace (1 upTo 18 ∷ []) b fs t ≡ baseCome fs t
+unfolding comeIn mildTrace baseCome endsGroup beginsGroup _upTo_
 base-come b fs t = ⊎-elim
     (λ (q : (lastTag fs ≡ 18) × (eqb (lastTag fs) 18 ≡ true)). rw (q .0, none-begins) (or-false (eqb t 32 || eqb t 33)))
     (λ (q : (lastTag fs ≡ 18 → ⊥) × (eqb (lastTag fs) 18 ≡ false)). rw (q .1, ne-eqb 18 (lastTag fs) (λ e. q .0 (sym e))))
@@ -187,8 +191,8 @@ base-come b fs t = ⊎-elim
         (eq-cases 1 t)
 
 module _ (b : Bool) (fs : List Field) (low : lastTag fs ≤ 18) where
-  tag-as-before : (t : ℕ) → TagTests (comeIn aloneGroups b fs t) (baseCome fs t) (cardWhole fs) (Tag19 b fs t)
-  tag-as-before t = rw (← base-come b fs t) (tests-as (λ w n. let l = last w in (whole l, (n .0, l, n .1))) group-19)
+  tag-as-before : (t : ℕ) → TagTests (comeIn mildTrace aloneGroups b fs t) (baseCome fs t) (cardWhole fs) (Tag19 b fs t)
+  tag-as-before t = rw (← base-come b fs t) (tests-as (λ w n. let l = last w in (whole l, (n .0, l, n .2))) group-19)
     where
       last : endsGroup (1 upTo 18 ∷ []) (lastTag fs) ≡ true → lastTag fs ≡ 18
       last e = unfold endsGroup _upTo_ in sym (eqb-true 18 (lastTag fs) (sym (or-false (eqb 18 (lastTag fs))) ∙ e))
@@ -196,8 +200,9 @@ module _ (b : Bool) (fs : List Field) (low : lastTag fs ≤ 18) where
       whole : lastTag fs ≡ 18 → cardWhole fs ≡ true
       whole l = unfold cardWhole endsGroup groups _upTo_ in rw l
 
-      group-19 : TagTests (comeIn aloneGroups b fs t) (comeIn (1 upTo 18 ∷ []) b fs t) (endsGroup (1 upTo 18 ∷ []) (lastTag fs)) ((b ≡ false) × (t ≡ 19))
-      group-19 = unfold aloneGroups beginsGroup _upTo_ in come-more (1 upTo 18 ∷ []) (19 upTo 22) refl (omega arith) b fs (omega (arith, low)) t
+      group-19 : TagTests (comeIn mildTrace aloneGroups b fs t) (comeIn mildTrace (1 upTo 18 ∷ []) b fs t) (endsGroup (1 upTo 18 ∷ []) (lastTag fs))
+          ((b ≡ false) × (lastTag fs < 19) × (t ≡ 19))
+      group-19 = unfold aloneGroups mildTrace beginsGroup _upTo_ in come-more mildTrace (1 upTo 18 ∷ []) [] (19 upTo 22) refl refl b fs (λ e. omega (arith, e, low)) t
 
 -- tag 19 stands so, and what was said of the file is a wrong tag there
 abbrev pub Tagged : List ℕ → Judged → Type 0
@@ -232,12 +237,13 @@ module _ (bytes : List ℕ) where
   pub as-before : (judgedBy alone bytes ≡ judgedBy base bytes) ⊎ Tagged bytes (judgedBy base bytes)
   as-before = agree alone base Tag19 Also alike bytes (record { low = unfold lastTag in omega arith; without = unfold has in refl; still = unfold Still in tt })
 
-  -- and they are still, or tag 19, 25, 26 or 34 stands so
-  pub as-ever : (judged bytes ≡ judgedBy base bytes) ⊎ (Tagged bytes (judgedBy base bytes) ⊎ (Paired bytes (judgedBy base bytes) ⊎ Heated bytes (judgedBy base bytes)))
-  as-ever = behind-it (λ j. Paired bytes j ⊎ Heated bytes j) as-before (alone-ever bytes)
+  -- and they are still, or tag 19, 23, 25, 26 or 34 stands so, or an entry that was taken writes MA 1
+  pub as-ever : (judged bytes ≡ judgedBy base bytes)
+      ⊎ (Tagged bytes (judgedBy base bytes) ⊎ (Paired bytes (judgedBy base bytes) ⊎ (Heated bytes (judgedBy base bytes) ⊎ Programmed bytes (judgedBy base bytes))))
+  as-ever = behind-it (λ j. Paired bytes j ⊎ (Heated bytes j ⊎ Programmed bytes j)) as-before (alone-ever bytes)
 
-  -- so where that judge's verdict is no wrong tag, verdict and lines are as they were
-  module _ (right : (at : ℕ) → judgeBase bytes ≡ refused 2 0 at 0 → ⊥) where
+  -- so where that judge's verdict is no wrong tag, and no entry that it took writes MA 1, verdict and lines are as they were
+  module _ (right : (at : ℕ) → judgeBase bytes ≡ refused 2 0 at 0 → ⊥) (unwritten : Written (judgedBy base bytes .past) → ⊥) where
     wrong : {A : Type 0} (j : Judged) → judgedBy base bytes ≡ j → (at : ℕ) → j .verdict ≡ refused 2 0 at 0 → A
     wrong j e at v = absurd (right at (unfold judgeBase in ap (λ (j : Judged). j .verdict) e ∙ v))
 
@@ -246,7 +252,13 @@ module _ (bytes : List ℕ) where
 
     now : judged bytes ≡ judgedBy alone bytes
     now = ⊎-elim (λ (e : judged bytes ≡ judgedBy alone bytes). e)
-        (⊎-elim (λ (p : Paired bytes (judgedBy alone bytes)). wrong _ (sym then) _ (p .verdict)) (λ (h : Heated bytes (judgedBy alone bytes)). wrong _ (sym then) _ (h .verdict)))
+        (⊎-elim
+        (λ (p : Paired bytes (judgedBy alone bytes)). wrong _ (sym then) _ (p .verdict))
+        (⊎-elim
+        (λ (h : Heated bytes (judgedBy alone bytes)). wrong _ (sym then) _ (h .verdict))
+        (⊎-elim
+        (λ (m : Met Tag23 bytes (judgedBy alone bytes)). wrong _ (sym then) _ (m .verdict))
+        (λ (w : Written (judgedBy alone bytes .past)). absurd (unwritten (rw then at w))))))
         (alone-ever bytes)
 
     pub verdict-as-before : judgeFile bytes ≡ judgeBase bytes

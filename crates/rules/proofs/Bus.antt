@@ -6,6 +6,7 @@ use mathlib.Core.List.{List, [], _∷_}
 use Rattle.rules.specs.Lists.{Every}
 use Rattle.rules.specs.Units.{Delays}
 use Rattle.rules.specs.Commands.{Command}
+use Rattle.rules.specs.Registers.{Modes}
 use Rattle.rules.specs.Levels.{Move}
 use Rattle.rules.specs.Folds.{Source, Rule, permittedBy, bound, firstBroken, greatest}
 use Rattle.rules.specs.Delays.{Ask, lastRD, lastWR, lastRDorMRR, Asked, Answers, Lookup, lookBoth, delayRules}
@@ -22,28 +23,28 @@ pub record SameBus (f g : Answers) : Type 0 where
 
 -- ---- lookups that agree on what a rule asks
 module _ (look look′ : Lookup) where
-  abbrev Agrees : Source Asked ℕ → Type 0
+  abbrev Agrees : Source Asked Modes → Type 0
   Agrees s = look (s .ask) ≡ look′ (s .ask)
 
-  abbrev SameBound : Rule Asked ℕ → Type 0
+  abbrev SameBound : Rule Asked Modes → Type 0
   SameBound q = bound look q ≡ bound look′ q
 
-  permitted-same : (ss : List (Source Asked ℕ)) → Every Agrees ss → permittedBy look ss ≡ permittedBy look′ ss
+  permitted-same : (ss : List (Source Asked Modes)) → Every Agrees ss → permittedBy look ss ≡ permittedBy look′ ss
   unfolding Every permittedBy
   permitted-same [] h = refl
   permitted-same (s ∷ ss) h = rw (h .0, permitted-same ss (h .1))
 
-  bounds-same : (qs : List (Rule Asked ℕ)) → Every (λ q. Every Agrees (q .sources)) qs → Every SameBound qs
+  bounds-same : (qs : List (Rule Asked Modes)) → Every (λ q. Every Agrees (q .sources)) qs → Every SameBound qs
   unfolding Every bound
   bounds-same [] h = tt
   bounds-same (q ∷ qs) h = (permitted-same (q .sources) (h .0), bounds-same qs (h .1))
 
-  broken-same : (qs : List (Rule Asked ℕ)) (t : ℕ) → Every SameBound qs → firstBroken look qs t ≡ firstBroken look′ qs t
+  broken-same : (qs : List (Rule Asked Modes)) (t : ℕ) → Every SameBound qs → firstBroken look qs t ≡ firstBroken look′ qs t
   unfolding Every firstBroken
   broken-same [] t h = refl
   broken-same (q ∷ qs) t h = rw (h .0, broken-same qs t (h .1))
 
-  greatest-same : (qs : List (Rule Asked ℕ)) → Every SameBound qs → greatest look qs ≡ greatest look′ qs
+  greatest-same : (qs : List (Rule Asked Modes)) → Every SameBound qs → greatest look qs ≡ greatest look′ qs
   unfolding Every greatest
   greatest-same [] h = refl
   greatest-same (q ∷ qs) h = rw (h .0, greatest-same qs (h .1))

@@ -2,14 +2,15 @@
 use Prim.Native.Nat.{ℕ, zero, suc, _+_, _≤_, _<_}
 use mathlib.Core.Path.{_≡_, refl, _∙_}
 use mathlib.Core.Logic.{_⊎_, inl, inr, ⊎-elim}
-use mathlib.Core.Bool.{true, false, not, _&&_, and-false}
+use mathlib.Core.Bool.{Bool, true, false, cond, not, _&&_, and-false}
+use mathlib.Core.Option.{none, some}
 use mathlib.Core.List.{List, [], _∷_, map}
 use native.Mathlib.Omega.{arith}
 use lib.Dec.{leb, eqb}
 use borrow.Author.Tests.{ne-eqb, not-true}
 use Rattle.rules.specs.Lists.{all}
-use Rattle.rules.specs.Ranges.{timingGood, raiseGood, timings, sleepTimings, cardGood}
-use Rattle.rules.specs.Form.{Field, number, numberFrom, lastTag, cardWhole, valueOf, has, numberAt, timingOf, timingAt, cardOf, gapGood, fieldGood}
+use Rattle.rules.specs.Ranges.{timingGood, startGood, mr1Start, raiseGood, timings, sleepTimings, cardGood}
+use Rattle.rules.specs.Form.{Field, number, numberFrom, lastTag, cardWhole, valueOf, has, numberAt, numberIf, timingOf, timingAt, cardOf, gapGood, fieldGood}
 use Rattle.rules.specs.FileReading.{CardRight}
 use Rattle.rules.proofs.Tests.{eq-cases, both-true}
 use Rattle.rules.proofs.CardGood.{parts-good}
@@ -110,15 +111,15 @@ module _ (fs : List Field) (r : CardRight fs) (w : cardWhole fs ≡ true) where
   good-at t low high = each-good fs r t (all-came fs r t low (omega arith) (omega (arith, ends-high (lastTag fs) (unfold cardWhole in w))))
 
   -- a timing that came is in range, and one that did not is 0
-  timing-at : (t : ℕ) → 5 ≤ t → t < 25 → timingGood (timingAt t fs) ≡ true
+  timing-at : (t : ℕ) → 5 ≤ t → t < 23 → timingGood (timingAt t fs) ≡ true
   unfolding fieldGood tagged timingAt
   timing-at t low high = ⊎-elim
       (λ (c : Came t fs).
-      rw (ne-eqb t 1 (omega arith), ne-eqb t 2 (omega arith), ne-eqb t 3 (omega arith), ne-eqb t 4 (omega arith), ne-eqb t 25 (omega arith), ne-eqb t 26 (omega arith)) at (each-good fs r t c))
+      rw (ne-eqb t 1 (omega arith), ne-eqb t 2 (omega arith), ne-eqb t 3 (omega arith), ne-eqb t 4 (omega arith), ne-eqb t 23 (omega arith), ne-eqb t 25 (omega arith), ne-eqb t 26 (omega arith)) at (each-good fs r t c))
       (λ (e : (valueOf t fs ≡ []) × (has t fs ≡ false)). rw (e .0) (unfold timingOf number numberFrom timingGood in refl))
       (not-came t fs)
 
-  timings-from : (n t : ℕ) → 5 ≤ t → t + n ≤ 25 → all timingGood (map (λ u. timingAt u fs) (tagsFrom t n)) ≡ true
+  timings-from : (n t : ℕ) → 5 ≤ t → t + n ≤ 23 → all timingGood (map (λ u. timingAt u fs) (tagsFrom t n)) ≡ true
   unfolding all tagsFrom
   timings-from zero t low high = refl
   timings-from (suc n) t low high = rw (timing-at t low (omega arith)) (timings-from n (suc t) (omega arith) (omega arith))
@@ -140,6 +141,17 @@ module _ (fs : List Field) (r : CardRight fs) (w : cardWhole fs ≡ true) where
       (λ (e : (valueOf 26 fs ≡ []) × (has 26 fs ≡ false)). rw (e .0) (unfold number numberFrom raiseGood in refl))
       (not-came 26 fs)
 
+  start-good : mr1Start (numberIf 23 fs) ≡ true
+  unfolding fieldGood tagged numberIf numberAt mr1Start
+  start-good = ⊎-elim
+      (λ (c : Came 23 fs). go (has 23 fs) (each-good fs r 23 c))
+      (λ (e : (valueOf 23 fs ≡ []) × (has 23 fs ≡ false)). rw (e .1))
+      (not-came 23 fs)
+    where
+      go : (x : Bool) → startGood (number (valueOf 23 fs)) ≡ true → mr1Start (cond x (some (number (valueOf 23 fs))) none) ≡ true
+      go true g = g
+      go false g = refl
+
   pub card-good : cardGood (cardOf fs) ≡ true
   unfolding cardOf timings sleepTimings tagsFrom fieldGood tagged numberAt
   card-good = parts-good (cardOf fs) (record {
@@ -151,4 +163,5 @@ module _ (fs : List Field) (r : CardRight fs) (w : cardWhole fs ≡ true) where
     gap = gap-good .0;
     apart = gap-good .1;
     raise = raise-good;
+    mr1 = start-good;
   })

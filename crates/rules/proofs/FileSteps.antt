@@ -129,16 +129,17 @@ tag-below fs r = ⊎-elim
     (within fs r)
 
 -- a field of the card that may come has a tag of the table
-pub card-tag : {b : Bool} (fs : List Field) (f : Field) → CardRight fs → RightForm b fs f → ofTrace (f .tag) ≡ false → (1 ≤ f .tag) × ((f .tag ≤ 22) ⊎ ((f .tag ≡ 25) ⊎ (f .tag ≡ 26)))
+pub card-tag : {b : Bool} (fs : List Field) (f : Field) → CardRight fs → RightForm b fs f → ofTrace (f .tag) ≡ false → (1 ≤ f .tag) × ((f .tag ≤ 23) ⊎ ((f .tag ≡ 25) ⊎ (f .tag ≡ 26)))
 unfolding Within groups _upTo_
 card-tag fs f r h o = bounds (f .tag) (within-next fs (f .tag) (follows f fs h o) (within fs r))
   where
-    bounds : (t : ℕ) → Within groups t → (1 ≤ t) × ((t ≤ 22) ⊎ ((t ≡ 25) ⊎ (t ≡ 26)))
+    bounds : (t : ℕ) → Within groups t → (1 ≤ t) × ((t ≤ 23) ⊎ ((t ≡ 25) ⊎ (t ≡ 26)))
     bounds t (inl p) = (p .0, inl (omega arith))
-    bounds t (inr (inl p)) = (omega arith, inl (p .1))
-    bounds t (inr (inr (inl p))) = (omega arith, inr (inl (omega arith)))
-    bounds t (inr (inr (inr (inl p)))) = (omega arith, inr (inr (omega arith)))
-    bounds t (inr (inr (inr (inr p)))) = absurd p
+    bounds t (inr (inl p)) = (omega arith, inl (omega arith))
+    bounds t (inr (inr (inl p))) = (omega arith, inl (p .1))
+    bounds t (inr (inr (inr (inl p)))) = (omega arith, inr (inl (omega arith)))
+    bounds t (inr (inr (inr (inr (inl p))))) = (omega arith, inr (inr (omega arith)))
+    bounds t (inr (inr (inr (inr (inr p))))) = absurd p
 
 data Kind (fs : List Field) (f : Field) : Type 0 where
   of-card : ofTrace (f .tag) ≡ false → Kind fs f

@@ -12,6 +12,7 @@ pub mod Waking
 pub mod PairPins
 pub mod CardGood
 pub mod Bounds
+pub mod WriteRecovery
 pub mod Table
 pub mod Steady
 pub mod Bus
@@ -54,6 +55,8 @@ pub mod Sound
 pub mod Walks
 pub mod Computed
 pub mod Starred
+pub mod Timed
+pub mod Unprogrammed
 pub mod Mild
 pub mod Unheated
 pub mod Alone

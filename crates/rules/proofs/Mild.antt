@@ -1,10 +1,10 @@
--- The judge as it was before temperature: those of its definitions that request Eleven changed. What pins are read as, whose they are and what they are
--- judged by are today's, for a body of pins.
+-- The judge as it was before temperature: what request Eleven changed in the judge of `Timed`. What pins are read as, whose they are and what they are judged by
+-- are today's, for a body of pins, but for rule 18.
 use Prim.Native.Nat.{ℕ, suc}
-use mathlib.Core.Bool.{Bool, cond, not, _&&_, _||_}
+use mathlib.Core.Bool.{Bool, cond, not, _||_}
 use mathlib.Core.List.{List, [], _∷_, _++_, map}
 use mathlib.Core.Option.{Option, none}
-use lib.Dec.{ltb, eqb}
+use lib.Dec.{eqb}
 use Rattle.rules.specs.Card.{Card}
 use Rattle.rules.specs.Units.{interval, delaysOf}
 use Rattle.rules.specs.Registers.{mr2Good}
@@ -13,16 +13,16 @@ use Rattle.rules.specs.Whose.{partOf, parts}
 use Rattle.rules.specs.Past.{Taken, Past, ofPart, counterAt, countedStamps, commandCount}
 use Rattle.rules.specs.States.{stateGood}
 use Rattle.rules.specs.Folds.{firstOf, firstBroken}
-use Rattle.rules.specs.Delays.{delayRules}
 use Rattle.rules.specs.Account.{lpddr3, every, steady, Book, ledgerOn, failingIn, firstIn}
 use Rattle.rules.specs.Clock.{clock}
 use Rattle.rules.specs.Entries.{pins, mr4, Entry, entry, whoseOf, viewFor, readFor, recordedAs, moveOf, judgedAs}
 use Rattle.rules.specs.Checks.{Refusal, unless, named, isWrong, isReserved, isBarred, isClash, valueGood, above, notBelow}
 use Rattle.rules.specs.Verdict.{refreshCount}
-use Rattle.rules.specs.Form.{Field, Group, _upTo_, lastTag, endsGroup, beginsGroup, Listed, _of_, number, numberAt, timingOf, gapGood}
+use Rattle.rules.specs.Form.{Field, Group, _upTo_, Listed, _of_, number, numberAt, timingOf, gapGood}
 use Rattle.rules.specs.File.{FileVerdict, accepted}
 use Rattle.rules.specs.Lines.{entryLine, verdictLine}
 use Rattle.rules.proofs.Walks.{Judge, judgedBy}
+use Rattle.rules.proofs.Timed.{timedRules, comeIn}
 
 -- ---- an entry is a stamp and pins: no field of another body comes
 unfoldable pub pinsOf : Entry → ℕ
@@ -58,7 +58,7 @@ mildEntry card past e =
     unless (stateGood (v .open?) (v .counter) c) 8 ∷
     unless (not (isBarred r)) 16 ∷
     unless (valueGood card c) 9 ∷
-    named 10 (firstBroken (v .look) (delayRules (delaysOf card) c (moveOf r) (v .counter)) t) ∷
+    named 10 (firstBroken (v .look) (timedRules (delaysOf card) c (moveOf r) (v .counter)) t) ∷
     named 11 (failingIn lpddr3 (mildBooks card (mildTaken card past e ∷ past)) t) ∷ []
     )
 
@@ -69,10 +69,8 @@ unfoldable pub mildVerdict : Card → Past → ℕ → FileVerdict
 mildVerdict card past end = accepted (commandCount past) (refreshCount card past) (map (λ b. ledgerOn (lpddr3 .credit) b end) (mildBooks card past))
 
 -- ---- the card's tags come in these groups, and behind them entries (32) and the end (33)
-unfoldable pub comeIn : List Group → (entries : Bool) → List Field → ℕ → Bool
-comeIn gs entries fs tag =
-    cond (endsGroup gs (lastTag fs)) ((eqb tag 32 || eqb tag 33) || (not entries && (ltb (lastTag fs) tag && beginsGroup gs tag)))
-    (eqb tag (suc (lastTag fs)))
+unfoldable pub mildTrace : ℕ → Bool
+mildTrace tag = eqb tag 32 || eqb tag 33
 
 unfoldable pub mildGroups : List Group
 mildGroups = 1 upTo 18 ∷ 19 upTo 22 ∷ 25 upTo 25 ∷ []
@@ -97,7 +95,7 @@ mildGood fs f =
 
 unfoldable pub mild : Judge
 mild = record {
-  come = comeIn mildGroups;
+  come = comeIn mildTrace mildGroups;
   entry = mildEntry;
   taken = mildTaken;
   end = mildEnd;

@@ -15,12 +15,13 @@ use Rattle.rules.specs.Card.{Card}
 use Rattle.rules.specs.Registers.{mr2Good}
 use Rattle.rules.specs.Ranges.{cardGood}
 use Rattle.rules.specs.Whose.{isOf, parts}
+use Rattle.rules.specs.Past.{modesAfter}
 use Rattle.rules.specs.Folds.{firstOf}
 use Rattle.rules.specs.Levels.{levelAfter, stopped}
 use Rattle.rules.specs.Account.{lpddr3, Beat, steady, takeOne, idle, firstIdle, failing}
 use Rattle.rules.specs.Entries.{Entry, whoseOf}
 use Rattle.rules.specs.Checks.{checks, valueGood}
-use Rattle.rules.specs.Delays.{means}
+use Rattle.rules.specs.Delays.{means, unnoted, notedOf}
 use Rattle.rules.specs.Lent.{
   Ledger,
   numberOf,
@@ -336,7 +337,7 @@ module _ (l : Lent) (e : Entry) (n : stepRefusal l e ≡ none) where
 
     -- after an entry of its own
     abbrev after : History
-    after = historyAfter (commandIn l e) (moveIn l e) (l .share p .counter) (e .stamp) (l .share p .mr2) (l .share p .history)
+    after = historyAfter (commandIn l e) (moveIn l e) (l .share p .counter) (e .stamp) (l .share p .modes) (l .share p .history)
 
     stamps-kept : allStored (λ a f. notAbove (some (e .stamp)) (f .stamp)) after ≡ true
     unfolding notAbove
@@ -347,14 +348,15 @@ module _ (l : Lent) (e : Entry) (n : stepRefusal l e ≡ none) where
     abbrev fits : ℕ → Bool
     fits = mr2Good (l .card .period)
 
-    mr2s-were : (fits (l .share p .mr2) ≡ true) × (allStored (λ a f. cond (means a .lags) (fits (f .noted)) true) (l .share p .history) ≡ true)
+    mr2s-were : (fits (l .share p .modes .mr2) ≡ true) × (allStored (λ a f. cond (means a .lags) (fits (f .noted .mr2)) true) (l .share p .history) ≡ true)
     mr2s-were = both-true _ _ (unfold mr2sGood in was .mr2s)
 
-    notes-kept : allStored (λ a f. cond (means a .lags) (fits (f .noted)) true) after ≡ true
-    notes-kept = stored-on (λ a f. cond (means a .lags) (fits (f .noted)) true) _ (l .share p .history) after
+    notes-kept : allStored (λ a f. cond (means a .lags) (fits (f .noted .mr2)) true) after ≡ true
+    unfolding notedOf
+    notes-kept = stored-on (λ a f. cond (means a .lags) (fits (f .noted .mr2)) true) _ (l .share p .history) after
         (λ q h. all-after _ (commandIn l e) (moveIn l e) _ _ _ (l .share p .history) q (go (means (q .ask) .lags)) h) (mr2s-were .1)
       where
-        go : (x : Bool) → cond x (fits (cond x (l .share p .mr2) 0)) true ≡ true
+        go : (x : Bool) → cond x (fits (cond x (l .share p .modes) unnoted .mr2)) true ≡ true
         go true = mr2s-were .0
         go false = refl
 
@@ -379,7 +381,7 @@ module _ (l : Lent) (e : Entry) (n : stepRefusal l e ≡ none) where
     own-kept : SoundShare (l .card) (some (e .stamp)) (shareAfter (commandIn l e) (moveIn l e) (e .stamp) (ledgerWith l e p) (l .share p))
     unfolding shareAfter
     own-kept = record {
-      mr2s = unfold mr2sGood in rw (write-good (l .card) (commandIn l e) (l .share p .mr2) (step-passed .value) (mr2s-were .0), notes-kept);
+      mr2s = unfold mr2sGood modesAfter in rw (write-good (l .card) (commandIn l e) (l .share p .modes .mr2) (step-passed .value) (mr2s-were .0), notes-kept);
       owing = sound-kept .owing;
       stamps = unfold stampsGood in stamps-kept;
       last-by = ledger-there;

@@ -1,4 +1,4 @@
--- The starred cases and the further ones, those of low clock-enable, of two parts and of temperature, each as a file, by computation.
+-- The starred cases and the further ones, those of low clock-enable, of nWR, of two parts and of temperature, each as a file, by computation.
 use mathlib.Core.Path.{_≡_, refl, ap, sym, _∙_}
 use mathlib.Core.List.{List, [], _∷_, _++_}
 use lib.ListN.{length}
@@ -29,7 +29,7 @@ use Rattle.rules.specs.Pins.{
   encode,
   encodePair,
 }
-use Rattle.rules.specs.Registers.{row, latencies, atCode, mr2Good, rlOf, wlOf, mr1Good, mayWrite}
+use Rattle.rules.specs.Registers.{row, latencies, atCode, mr2Good, rlOf, wlOf, recovery, recoveries, atPair, nwrBy, nwrOf, mr1Good, mayWrite}
 use Rattle.rules.specs.Whose.{isOf, partOf, other, bySelects, whose, parts}
 use Rattle.rules.specs.Levels.{
   depth,
@@ -77,9 +77,12 @@ use Rattle.rules.specs.Entries.{
 }
 use Rattle.rules.specs.Past.{
   ofPart,
+  writesMA,
   registerAfter,
   register,
   mr2At,
+  mr1At,
+  modesAt,
   mr4At,
   levelAt,
   counterAfter,
@@ -105,6 +108,8 @@ use Rattle.rules.specs.Delays.{
   latestMove,
   to,
   means,
+  unnoted,
+  notedOf,
   found,
   find,
   lookBoth,
@@ -114,6 +119,7 @@ use Rattle.rules.specs.Delays.{
   without,
   from,
   lagging,
+  recovering,
   across,
   rule,
   delayRules,
@@ -121,7 +127,7 @@ use Rattle.rules.specs.Delays.{
 use Rattle.rules.specs.Account.{lpddr3, every, fallen, nextAfter, respaced, takeOne, failing, earlier, earliest}
 use Rattle.rules.specs.Clock.{beatBy}
 use Rattle.rules.specs.Checks.{refusal, unless, named, isWrong, isReserved, isBarred, isClash, codeGood, valueGood, checks, above, notBelow}
-use Rattle.rules.specs.Ranges.{within, periodGood, groupsGood, trefiGood, timingGood, raiseGood, timings, sleepTimings}
+use Rattle.rules.specs.Ranges.{within, periodGood, groupsGood, trefiGood, timingGood, startGood, raiseGood, timings, sleepTimings}
 use Rattle.rules.specs.Form.{
   bytesOf,
   sizeOf,
@@ -148,6 +154,7 @@ use Rattle.rules.specs.Form.{
   valueOf,
   has,
   numberAt,
+  numberIf,
   timingAt,
   cardOf,
   gapGood,
@@ -173,6 +180,7 @@ use Rattle.rules.specs.Bench.{
   hotPair,
   tight,
   timingFields,
+  startField,
   cardFile,
   bodyBytes,
   entriesFile,
@@ -198,6 +206,10 @@ use Rattle.rules.specs.Bench.{
   _at₁_,
   bothOpen,
   paired,
+  starts,
+  again,
+  unhurried,
+  programmed,
   _sets_,
   warming,
 }
@@ -210,7 +222,7 @@ use Rattle.rules.proofs.Computed.{effectFor, ledgerThen, keptThen, kept
 
 -- names every definition that a case computes with
 unfoldable pub opened : Unit {0}
-unfolding Every all isOneOf when bits on bit roundedUp n rowCycle delaysOf heat mr4Good startMR4 quarters intervalAt isHot longer hotCard delaysAt code bare carries kindOf bankOf apOf is banks CAr CAf byLevels kindAt run maRuns opRuns bankRuns rowRuns columnRuns gathered scattered listedMA ofKind decode levels enabled encode encodePair row latencies atCode mr2Good rlOf wlOf mr1Good mayWrite depth sameLevel stopped isFall isRise risesFrom levelAfter fallBy fall rise readAt readPins seen selected readPair readAs senseAt readMR4 isOf partOf other bySelects whose parts ofPart readBody read readAfter whoseBody whoseOf partIn ownFor othersFor viewFor readFor commandOf recordedAs moveOf mr4Of fallsAs movesAs judgedAs taken takenFor pastWith levelAt registerAfter register mr2At mr4At counterAfter counterAt bankAt opens precharges closes openAfter isOpen isCounted stampsWhere countedStamps commandCount allClosed goes stateGood orElse firstOf latest back permitted permittedBy bound firstBroken latestOf laggingOf fourthOf latestIf latestMove to means found find lookBoth turned idleUse precharged without from lagging across rule delayRules lpddr3 every fallen nextAfter respaced takeOne failing earlier earliest beatBy refusal unless named isWrong isReserved isBarred isClash codeGood valueGood viewOf checks above notBelow within periodGood groupsGood trefiGood timingGood raiseGood timings sleepTimings bytesOf sizeOf numberFrom number _upTo_ groups lastTag endsGroup beginsGroup cardWhole ofEntry ofTrace mayFollow mayCome _of_ lengths isListed lengthGood valued sized headOf timingOf valueOf has numberAt timingAt cardOf gapGood fieldGood bodyOf entryOf endOf sum refreshCount begun orRefused cardStep closing bigEndian fieldBytes entryBytes digits decimal signed nameOf showsBank shownPart entryLine unlessSensed entryLines ledgerParts verdictLine numberOf isThere noEffect countedTo refreshedAt sensedAt atLevel failingOf freshShare accepts timing onlyIf benchWith benchAt bench sleeper pair heater hotPair tight timingFields cardFile bodyBytes entriesFile endFile file _at_ eightRefreshes fourActs starred further _low_ sevenRefreshes sleeping _at₀_ _at₁_ bothOpen paired _sets_ warming owedAt next19 next20 after20 firstNext relabel biased ledgerClosed failingClosed headBy entryBy endBy byHeadBy stepBy fileBy judgedBy effectFor ledgerThen keptThen keptOver failingsFrom failingsAt entryFrom endFrom owingsFrom computing computed
+unfolding Every all isOneOf when bits on bit roundedUp n rowCycle delaysOf heat mr4Good startMR4 quarters intervalAt isHot longer hotCard delaysAt code bare carries kindOf bankOf apOf is banks CAr CAf byLevels kindAt run maRuns opRuns bankRuns rowRuns columnRuns gathered scattered listedMA ofKind decode levels enabled encode encodePair row latencies atCode mr2Good rlOf wlOf recovery recoveries atPair nwrBy nwrOf mr1Good mayWrite depth sameLevel stopped isFall isRise risesFrom levelAfter fallBy fall rise readAt readPins seen selected readPair readAs senseAt readMR4 isOf partOf other bySelects whose parts ofPart readBody read readAfter whoseBody whoseOf partIn ownFor othersFor viewFor readFor commandOf recordedAs moveOf mr4Of fallsAs movesAs judgedAs taken takenFor pastWith levelAt writesMA registerAfter register mr2At mr1At modesAt mr4At counterAfter counterAt bankAt opens precharges closes openAfter isOpen isCounted stampsWhere countedStamps commandCount allClosed goes stateGood orElse firstOf latest back permitted permittedBy bound firstBroken latestOf laggingOf fourthOf latestIf latestMove to means unnoted notedOf found find lookBoth turned idleUse precharged without from lagging recovering across rule delayRules lpddr3 every fallen nextAfter respaced takeOne failing earlier earliest beatBy refusal unless named isWrong isReserved isBarred isClash codeGood valueGood viewOf checks above notBelow within periodGood groupsGood trefiGood timingGood startGood raiseGood timings sleepTimings bytesOf sizeOf numberFrom number _upTo_ groups lastTag endsGroup beginsGroup cardWhole ofEntry ofTrace mayFollow mayCome _of_ lengths isListed lengthGood valued sized headOf timingOf valueOf has numberAt numberIf timingAt cardOf gapGood fieldGood bodyOf entryOf endOf sum refreshCount begun orRefused cardStep closing bigEndian fieldBytes entryBytes digits decimal signed nameOf showsBank shownPart entryLine unlessSensed entryLines ledgerParts verdictLine numberOf isThere noEffect countedTo refreshedAt sensedAt atLevel failingOf freshShare accepts timing onlyIf benchWith benchAt bench sleeper pair heater hotPair tight timingFields startField cardFile bodyBytes entriesFile endFile file _at_ eightRefreshes fourActs starred further _low_ sevenRefreshes sleeping _at₀_ _at₁_ bothOpen paired starts again unhurried programmed _sets_ warming owedAt next19 next20 after20 firstNext relabel biased ledgerClosed failingClosed headBy entryBy endBy byHeadBy stepBy fileBy judgedBy effectFor ledgerThen keptThen keptOver failingsFrom failingsAt entryFrom endFrom owingsFrom computing computed
 opened = tt
 
 -- a case whose verdict is computed with the account in closed form
@@ -259,6 +271,12 @@ paired-computes =
     refl & refl & refl & refl & refl & refl &
     (refl, refl) & (refl, refl) & (refl, refl) & (refl, refl) & refl & tt
 
+programmed-computes : Every Computes programmed
+unfolding opened Computes
+programmed-computes =
+    refl & refl & refl & refl & refl & refl & refl & refl & refl & refl & refl & refl & refl & refl & refl & refl & refl & refl & refl & refl &
+    refl & refl & refl & refl & refl & refl & refl & refl & refl & refl & refl & refl & refl & refl & refl & refl & tt
+
 warming-computes : Every Computes warming
 unfolding opened Computes
 warming-computes =
@@ -279,6 +297,9 @@ sleeping-hold = all-shown sleeping sleeping-computes
 
 pub paired-hold : Every Shown paired
 paired-hold = all-shown paired paired-computes
+
+pub programmed-hold : Every Shown programmed
+programmed-hold = all-shown programmed programmed-computes
 
 pub warming-hold : Every Shown warming
 warming-hold = all-shown warming warming-computes

@@ -15,7 +15,7 @@ use Rattle.rules.specs.Heat.{delaysAt}
 use Rattle.rules.specs.Ranges.{cardGood}
 use Rattle.rules.specs.Whose.{isOf, other, parts}
 use Rattle.rules.specs.Levels.{levelAfter}
-use Rattle.rules.specs.Past.{Past, ofPart, lastCycle, register, mr2At, mr4At, levelAt, counterAt, isOpen, stampsWhere, countedStamps}
+use Rattle.rules.specs.Past.{Past, ofPart, lastCycle, register, mr2After, mr1After, modesAfter, mr2At, mr1At, modesAt, mr4At, levelAt, counterAt, isOpen, stampsWhere, countedStamps}
 use Rattle.rules.specs.Folds.{orElse, firstOf}
 use Rattle.rules.specs.Delays.{find}
 use Rattle.rules.specs.Account.{lpddr3, Beat, every, lastCounted, ledgerOn, lastOn, sinceOn, failingOn, firstOn, failingIn, firstIn, earliest}
@@ -40,7 +40,7 @@ use Rattle.rules.proofs.Beats.{plain-beat, plain-mr4, sensed-beat, sens
 use Rattle.rules.proofs.Paces.{all-made, other-senseless, SamePace, one-pace, pace-same, pace-beat}
 
 share-fresh : (card : Card) → shareOf card [] 0 ≡ freshShare card
-unfolding shareOf freshShare sinceOn historyOf mr2At register isOpen levelAt counterAt lastOn lastCounted bookOf scheduleOf clock countedFrom countedStamps stampsWhere
+unfolding shareOf freshShare sinceOn historyOf modesAt mr2At mr1At register isOpen levelAt counterAt lastOn lastCounted bookOf scheduleOf clock countedFrom countedStamps stampsWhere
 share-fresh card = rw (owing-start card)
 
 pub fresh-stands : (card : Card) → standing card [] unmoved ≡ fresh card
@@ -179,7 +179,7 @@ module _ (card : Card) (past : Past) (c : ℕ → ℕ) (good : cardGood card ≡
   last-good p = last-within past (max (lastCycle past) (c p)) (omega arith)
 
   share-good : (p : ℕ) → IsPart card p → shareGood card (lastOf past) (shareOf card (ofPart p past) (standsAt past c p)) ≡ true
-  unfolding shareGood shareOf mr2sGood stampsGood
+  unfolding shareGood shareOf mr2sGood stampsGood modesAt
   share-good p i = rw (
     mr2-good card good p past all,
     mr2s-stored card good p past all,
@@ -359,7 +359,7 @@ module _ (card : Card) (past : Past) (c : ℕ → ℕ) (good : cardGood card ≡
           ≡ shareOf card (cond y (taken card (ofPart p past) e ∷ ofPart p past) (ofPart p past)) (e .stamp)
       go true o =
           unfold commandIn moveIn in rw (read-same e)
-          (rw (own-read card past p e o) (unfold shareAfter shareOf mr2At register counterAt isOpen historyOf taken in refl))
+          (rw (own-read card past p e o) (unfold shareAfter shareOf modesAfter mr2After mr1After modesAt mr2At mr1At register counterAt isOpen historyOf taken in refl))
       go false o = unfold withLedger shareOf in refl
 
   shares-next : (e : Entry) → Reached card past c (e .stamp) → Above past (e .stamp) → (p : ℕ) →

@@ -12,10 +12,10 @@ use Rattle.rules.specs.Lists.{all}
 use Rattle.rules.specs.Card.{Card}
 use Rattle.rules.specs.Commands.{Command, banks}
 use Rattle.rules.specs.Levels.{Move}
-use Rattle.rules.specs.Registers.{mr2Good}
+use Rattle.rules.specs.Registers.{mr2Good, Modes}
 use Rattle.rules.specs.Ranges.{cardGood}
 use Rattle.rules.specs.Whose.{isOf}
-use Rattle.rules.specs.Past.{Past, ofPart, lastCycle, mr2At}
+use Rattle.rules.specs.Past.{Past, ofPart, lastCycle, modesAt}
 use Rattle.rules.specs.Folds.{Found}
 use Rattle.rules.specs.Delays.{
   Ask,
@@ -41,6 +41,8 @@ use Rattle.rules.specs.Delays.{
   Question,
   Meaning,
   means,
+  unnoted,
+  notedOf,
 }
 use Rattle.rules.specs.Lent.{History, asks, allStored, notAbove, remembered, historyAfter, lastOf, historyOf, AllTaken}
 use Rattle.rules.proofs.Tests.{both-true}
@@ -93,18 +95,18 @@ asks-all lastFall = (16, refl)
 asks-all lastPowerExit = (17, refl)
 asks-all lastSelfExit = (18, refl)
 
-pub stored-of : (p : Ask → Found ℕ → Bool) (h : History) → ((q : Question) → all (p (q .ask)) (h q) ≡ true) → allStored p h ≡ true
+pub stored-of : (p : Ask → Found Modes → Bool) (h : History) → ((q : Question) → all (p (q .ask)) (h q) ≡ true) → allStored p h ≡ true
 unfolding allStored
 stored-of p h g = all-of _ (λ a. all-of _ (λ b. g (record { ask = a; bank = b })) banks) asks
 
-pub stored-on : (p p′ : Ask → Found ℕ → Bool) (h h′ : History) → ((q : Question) → all (p (q .ask)) (h q) ≡ true → all (p′ (q .ask)) (h′ q) ≡ true) →
+pub stored-on : (p p′ : Ask → Found Modes → Bool) (h h′ : History) → ((q : Question) → all (p (q .ask)) (h q) ≡ true → all (p′ (q .ask)) (h′ q) ≡ true) →
     allStored p h ≡ true → allStored p′ h′ ≡ true
 unfolding allStored
 stored-on p p′ h h′ g = all-on _ _ (λ a. all-on _ _ (λ b. g (record { ask = a; bank = b })) banks) asks
 
 -- an entry more
-module _ (p : Found ℕ → Bool) where
-  all-remembered : (m : Meaning) (c : Command) (f : Found ℕ) (h : List (Found ℕ)) → p f ≡ true → all p h ≡ true → all p (remembered m c f h) ≡ true
+module _ (p : Found Modes → Bool) where
+  all-remembered : (m : Meaning) (c : Command) (f : Found Modes) (h : List (Found Modes)) → p f ≡ true → all p h ≡ true → all p (remembered m c f h) ≡ true
   unfolding remembered
   all-remembered m c f h pf ph = go (m .only c)
     where
@@ -112,13 +114,13 @@ module _ (p : Found ℕ → Bool) where
       go true = all-cons p f (take (m .passed) h) pf (all-take p (m .passed) h ph)
       go false = unfold all in refl
 
-  pub all-after : (c : Command) (v : Move) (n t mr2 : ℕ) (h : History) (q : Question) → p (record { stamp = t; noted = cond (means (q .ask) .lags) mr2 0 }) ≡ true →
-      all p (h q) ≡ true → all p (historyAfter c v n t mr2 h q) ≡ true
+  pub all-after : (c : Command) (v : Move) (n t : ℕ) (m : Modes) (h : History) (q : Question) → p (record { stamp = t; noted = notedOf (means (q .ask)) m }) ≡ true →
+      all p (h q) ≡ true → all p (historyAfter c v n t m h q) ≡ true
   unfolding historyAfter
-  all-after c v n t mr2 h q pf ph = go (means (q .ask) .among (q .bank) c v n)
+  all-after c v n t m h q pf ph = go (means (q .ask) .among (q .bank) c v n)
     where
       go : (x : Bool) →
-          all p (cond x (remembered (means (q .ask)) c (record { stamp = t; noted = cond (means (q .ask) .lags) mr2 0 }) (h q)) (h q)) ≡ true
+          all p (cond x (remembered (means (q .ask)) c (record { stamp = t; noted = notedOf (means (q .ask)) m }) (h q)) (h q)) ≡ true
       go true = all-remembered (means (q .ask)) c _ (h q) pf ph
       go false = ph
 
@@ -135,14 +137,14 @@ module _ (card : Card) where
       (not-above (e .stamp) (ofPart p (e ∷ t)) (below-part p _ (e ∷ t) (unfold lastCycle in below-last (e ∷ t) r)))
 
   abbrev Noted : Past → Question → Type 0
-  Noted own q = all (λ f. cond (means (q .ask) .lags) (mr2Good (card .period) (f .noted)) true) (historyOf card own q) ≡ true
+  Noted own q = all (λ f. cond (means (q .ask) .lags) (mr2Good (card .period) (f .noted .mr2)) true) (historyOf card own q) ≡ true
 
   pub noted-good : cardGood card ≡ true → (p : ℕ) (past : Past) → AllTaken card past → (q : Question) → Noted (ofPart p past) q
-  unfolding historyOf AllTaken ofPart
+  unfolding historyOf AllTaken ofPart notedOf modesAt
   noted-good good p [] t q = unfold all in refl
   noted-good good p (e ∷ past) t q = next (isOf p (e .whose)) (noted-good good p past (t .1) q)
     where
-      go : (x : Bool) → cond x (mr2Good (card .period) (cond x (mr2At card (ofPart p past)) 0)) true ≡ true
+      go : (x : Bool) → cond x (mr2Good (card .period) (cond x (modesAt card (ofPart p past)) unnoted .mr2)) true ≡ true
       go true = mr2-good card good p past (t .1)
       go false = refl
 
@@ -151,5 +153,5 @@ module _ (card : Card) where
       next false h = h
 
   pub mr2s-stored : cardGood card ≡ true → (p : ℕ) (past : Past) → AllTaken card past →
-      allStored (λ a f. cond (means a .lags) (mr2Good (card .period) (f .noted)) true) (historyOf card (ofPart p past)) ≡ true
+      allStored (λ a f. cond (means a .lags) (mr2Good (card .period) (f .noted .mr2)) true) (historyOf card (ofPart p past)) ≡ true
   mr2s-stored good p past t = stored-of _ (historyOf card (ofPart p past)) (noted-good good p past t)

@@ -18,7 +18,7 @@ use Rattle.rules.specs.Registers.{mr2Good, mr1Good, mayWrite}
 use Rattle.rules.specs.Ranges.{cardGood}
 use Rattle.rules.specs.Levels.{selfRefresh, Move, risesFrom, Read, plain, moved, asleep, barred, clash, sensed}
 use Rattle.rules.specs.Whose.{isOf, parts}
-use Rattle.rules.specs.Past.{Past, ofPart, lastCycle, registerAfter, register, mr2At, counterAfter, counterAt, stampsWhere, countedStamps}
+use Rattle.rules.specs.Past.{Past, ofPart, lastCycle, writesMA, registerAfter, register, mr2After, mr2At, counterAfter, counterAt, stampsWhere, countedStamps}
 use Rattle.rules.specs.Folds.{orElse}
 use Rattle.rules.specs.Account.{lpddr3, isDue, every, cycle, ledgerBefore, ledgerAfter, lastCounted, onBeat, failing, Book, ledgerOn, lastOn, failingOn, firstOn}
 use Rattle.rules.specs.Clock.{countedFrom, clock, beatAt, scheduleOf, bookOf, booksOf}
@@ -126,8 +126,8 @@ module _ (card : Card) where
   pub orderly : (p : ℕ) (past : Past) → AllTaken card past → Orderly card (ofPart p past)
   orderly p = part-induction p (Orderly card) (start-orderly card) (λ t e i x o. taken-orderly card (ofPart p t) e o)
 
-  pub write-good : (c : Command) (v : ℕ) → valueGood card c ≡ true → mr2Good (card .period) v ≡ true → mr2Good (card .period) (registerAfter 2 c v) ≡ true
-  unfolding valueGood mayWrite registerAfter
+  pub write-good : (c : Command) (v : ℕ) → valueGood card c ≡ true → mr2Good (card .period) v ≡ true → mr2Good (card .period) (mr2After c v) ≡ true
+  unfolding valueGood mayWrite mr2After registerAfter writesMA
   write-good c v h g = go (is MRW c) (eqb (carries c .ma) 2) refl h
     where
       go : (w x : Bool) → eqb (carries c .ma) 2 ≡ x →
@@ -146,7 +146,7 @@ module _ (card : Card) where
   own-value p t e i x = recorded-good card (readAfter card (ofPart p t) e) (rw (own-read card t p e i) at (x .value))
 
   pub mr2-good : cardGood card ≡ true → (p : ℕ) (past : Past) → AllTaken card past → mr2Good (card .period) (mr2At card (ofPart p past)) ≡ true
-  unfolding mr2At register
+  unfolding mr2At register mr2After
   mr2-good good p = part-induction p (λ t. mr2Good (card .period) (mr2At card t) ≡ true) (good-parts card good .mr2)
       (λ t e i x h. write-good (taken card (ofPart p t) e .cmd) (mr2At card (ofPart p t)) (own-value p t e i x) h)
 

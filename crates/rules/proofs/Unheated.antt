@@ -1,5 +1,6 @@
--- A file without tags 26 and 34 has the verdict and the lines that it had before temperature: every file has, unless tag 26 stands where its card could end and
--- before its first entry, or tag 34 behind a whole card, where it was refused by 2.
+-- A file without tags 26 and 34 has the verdict and the lines that it had before temperature: every file had, just before nWR, unless tag 26 stands where its card
+-- could end and before its first entry, or tag 34 behind a whole card, where it was refused by 2. By `Unprogrammed` every file has still, unless tag 23, 26 or 34
+-- stands so or an entry that was taken writes MA 1.
 use Prim.Native.Nat.{ℕ, suc, _≤_, _<_}
 use mathlib.Core.Path.{_≡_, refl, ap, sym, _∙_, fun-ext}
 use mathlib.Core.Logic.{_⊎_, inl, inr, ⊎-elim}
@@ -21,9 +22,9 @@ use Rattle.rules.specs.Folds.{orElse, firstOf}
 use Rattle.rules.specs.Account.{every, steady}
 use Rattle.rules.specs.Clock.{beatAt, scheduleBy, scheduleOf, bookOf, booksOf}
 use Rattle.rules.specs.Entries.{Entry, readBody, read, readAfter, ownFor, readFor, mr4Of, taken, takenFor, pastWith}
-use Rattle.rules.specs.Checks.{unless, codeGood, checks, entryChecks, endChecks, entryRefusal, endRefusal}
+use Rattle.rules.specs.Checks.{unless, codeGood, endChecks, endRefusal}
 use Rattle.rules.specs.Verdict.{refreshCount, ledgersAt}
-use Rattle.rules.specs.Form.{Field, Group, _upTo_, groups, lastTag, endsGroup, beginsGroup, cardWhole, ofEntry, ofTrace, mayFollow, mayCome, _of_, lengths, isListed, lengthGood, cardOf, fieldGood, bodyOf, entryOf}
+use Rattle.rules.specs.Form.{Field, Group, _upTo_, lastTag, endsGroup, beginsGroup, cardWhole, ofEntry, ofTrace, mayCome, _of_, isListed, lengthGood, cardOf, fieldGood, bodyOf, entryOf}
 use Rattle.rules.specs.File.{accepted, begun, Judged, judged, judgeFile}
 use Rattle.rules.specs.FileReading.{CardRight}
 use Rattle.rules.specs.Lines.{unlessSensed, entryLines, verdictLine, linesOf}
@@ -32,8 +33,10 @@ use Rattle.rules.proofs.PinReads.{read-is}
 use Rattle.rules.proofs.Rounding.{interval-start}
 use Rattle.rules.proofs.CardRead.{card-good}
 use Rattle.rules.proofs.Paces.{pins-senseless}
-use Rattle.rules.proofs.Walks.{judgedBy, defined, defined-judged, Newer, Met, TagTests, tests-as, still-comes, Enters, Alike, agree, all-have}
-use Rattle.rules.proofs.Mild.{pinsOf, pinned, mildTaken, mildBook, mildBooks, mildEntry, mildEnd, mildVerdict, comeIn, mildGroups, mildLengths, mildGood, mild, judgeMild, mildLines, linesMild}
+use Rattle.rules.proofs.Walks.{judgedBy, defined, Newer, Met, TagTests, tests-as, still-comes, Enters, Alike, agree, behind-it, all-have}
+use Rattle.rules.proofs.Timed.{timedEntry, comeIn, timedGroups, timedLengths, timedGood, timed}
+use Rattle.rules.proofs.Unprogrammed.{ends-more, come-more, never-comes, whole-as-timed, timed-comes, Programmed, Unprogrammed, not-programmed, as-timed, length-as-timed, good-as-timed}
+use Rattle.rules.proofs.Mild.{pinsOf, pinned, mildTaken, mildBook, mildBooks, mildEntry, mildEnd, mildVerdict, mildTrace, mildGroups, mildLengths, mildGood, mild, judgeMild, mildLines, linesMild}
 
 -- ---- pins are no temperature
 senseless : (card : Card) (own : Past) (e : Entry) → (codeGood (readAfter card own (pinned e)) ≡ true) × (mr4Of (readAfter card own (pinned e)) ≡ none)
@@ -87,8 +90,8 @@ unfolding takenFor taken mildTaken readFor
 same-taken card past e = rw (senseless card (ownFor card past (pinned e)) e .1) (unfold pinned in refl)
 
 module _ (card : Card) (good : cardGood card ≡ true) (past : Past) (c : Cool past) where
-  same-entry : (e : Entry) → entryRefusal card past (pinned e) ≡ mildEntry card past e
-  unfolding entryRefusal entryChecks checks mildEntry pastWith readFor
+  same-entry : (e : Entry) → timedEntry card past (pinned e) ≡ mildEntry card past e
+  unfolding timedEntry mildEntry pastWith readFor
   same-entry e =
       rw (
         same-taken card past e,
@@ -120,8 +123,8 @@ begins-low top (g ∷ gs) h t b =
 
 -- a field of the card keeps the tags low
 pub card-low : (top : ℕ) (gs : List Group) → all (λ g. leb (g .first) top) gs ≡ true → endsGroup gs top ≡ true →
-    (b : Bool) (fs : List Field) (t : ℕ) → lastTag fs ≤ top → comeIn gs b fs t ≡ true → ofTrace t ≡ false → t ≤ top
-unfolding comeIn ofTrace ofEntry
+    (b : Bool) (fs : List Field) (t : ℕ) → lastTag fs ≤ top → comeIn mildTrace gs b fs t ≡ true → ofTrace t ≡ false → t ≤ top
+unfolding comeIn mildTrace ofTrace ofEntry
 card-low top gs firsts last b fs t low m o = go (endsGroup gs (lastTag fs)) refl (eqb t 32) (eqb t 34) (eqb t 33) b o m
   where
     go : (w : Bool) → endsGroup gs (lastTag fs) ≡ w → (x y z b : Bool) → ((x || y) || z) ≡ false →
@@ -136,40 +139,14 @@ card-low top gs firsts last b fs t low m o = go (endsGroup gs (lastTag fs)) refl
         not-top : endsGroup gs (lastTag fs) ≡ false → lastTag fs ≡ top → ⊥
         not-top w e = let z : true ≡ false = sym last ∙ (rw e at w) in let y : _≡_ {A = ℕ} 0 1 = cc in omega arith
 
--- with a group more, up to its last tag, the card could end where it could before
-pub ends-more : (gs : List Group) (g : Group) (t : ℕ) → t < g .last → endsGroup (gs ++ (g ∷ [])) t ≡ endsGroup gs t
-unfolding endsGroup
-ends-more [] g t l = rw (ne-eqb (g .last) t (omega arith))
-ends-more (h ∷ gs) g t l = rw (ends-more gs g t l)
-
-begins-more : (gs : List Group) (g : Group) (t : ℕ) → (t ≡ g .first → ⊥) → beginsGroup (gs ++ (g ∷ [])) t ≡ beginsGroup gs t
-unfolding beginsGroup
-begins-more [] g t n = rw (ne-eqb (g .first) t (λ e. n (sym e)))
-begins-more (h ∷ gs) g t n = rw (begins-more gs g t n)
-
--- and only its first tag is new: where the card could end, before the first entry
-module _ (gs : List Group) (g : Group) (fresh : beginsGroup gs (g .first) ≡ false) (small : g .first < 32) (b : Bool) (fs : List Field) (low : lastTag fs < g .last) where
-  pub come-more : (t : ℕ) → TagTests (comeIn (gs ++ (g ∷ [])) b fs t) (comeIn gs b fs t) (endsGroup gs (lastTag fs)) ((b ≡ false) × (t ≡ g .first))
-  unfolding comeIn
-  come-more t = rw (ends-more gs g (lastTag fs) low) (go (endsGroup gs (lastTag fs)) b (eq-cases t (g .first)))
-    where
-      go : (w b : Bool) → ((t ≡ g .first) × (eqb t (g .first) ≡ true)) ⊎ ((t ≡ g .first → ⊥) × (eqb t (g .first) ≡ false)) →
-          TagTests (cond w ((eqb t 32 || eqb t 33) || (not b && (ltb (lastTag fs) t && beginsGroup (gs ++ (g ∷ [])) t))) (eqb t (suc (lastTag fs))))
-          (cond w ((eqb t 32 || eqb t 33) || (not b && (ltb (lastTag fs) t && beginsGroup gs t))) (eqb t (suc (lastTag fs)))) w ((b ≡ false) × (t ≡ g .first))
-      go false b c = inl refl
-      go true true c = inl refl
-      go true false (inl q) =
-          inr (rw (q .0, fresh, ne-eqb (g .first) 32 (omega arith), ne-eqb (g .first) 33 (omega arith)) (and-false (ltb (lastTag fs) (g .first))), refl, (refl, q .0))
-      go true false (inr q) = inl (rw (begins-more gs g t (q .0)))
-
 -- ---- a file
 -- tag 26 before the first entry, and tag 34
 abbrev pub Tag26or34 : (entries : Bool) → List Field → ℕ → Type 0
 Tag26or34 entries fs t = ((entries ≡ false) × (t ≡ 26)) ⊎ (t ≡ 34)
 
-module _ (b : Bool) (fs : List Field) (low : lastTag fs ≤ 25) where
-  never-34 : comeIn mildGroups b fs 34 ≡ false
-  unfolding comeIn mildGroups beginsGroup _upTo_
+module _ (b : Bool) (fs : List Field) (low : lastTag fs ≤ 25) (n : lastTag fs ≡ 23 → ⊥) where
+  never-34 : comeIn mildTrace mildGroups b fs 34 ≡ false
+  unfolding comeIn mildTrace mildGroups beginsGroup _upTo_
   never-34 = go (endsGroup mildGroups (lastTag fs)) (not b)
     where
       go : (w x : Bool) → cond w (x && (ltb (lastTag fs) 34 && false)) (eqb 34 (suc (lastTag fs))) ≡ false
@@ -178,30 +155,30 @@ module _ (b : Bool) (fs : List Field) (low : lastTag fs ≤ 25) where
       go false x = ne-eqb 34 (suc (lastTag fs)) (λ e. omega (arith, e, low))
 
   pub whole-as-mild : cardWhole fs ≡ endsGroup mildGroups (lastTag fs)
-  unfolding cardWhole groups mildGroups _upTo_
-  whole-as-mild = ends-more mildGroups (26 upTo 26) (lastTag fs) (omega (arith, low))
+  unfolding timedGroups mildGroups _upTo_
+  whole-as-mild = whole-as-timed b fs n ∙ ends-more mildGroups [] (26 upTo 26) (lastTag fs) (λ e. omega (arith, e, low))
 
-  tag-as-mild : (t : ℕ) → TagTests (mayCome b fs t) (comeIn mildGroups b fs t) (cardWhole fs) (Tag26or34 b fs t)
+  tag-as-mild : (t : ℕ) → TagTests (comeIn ofTrace timedGroups b fs t) (comeIn mildTrace mildGroups b fs t) (cardWhole fs) (Tag26or34 b fs t)
   tag-as-mild t = ⊎-elim
       (λ (q : (t ≡ 34) × (eqb t 34 ≡ true)). rw (q .0, never-34) (at-34 (cardWhole fs) refl))
-      (λ (q : (t ≡ 34 → ⊥) × (eqb t 34 ≡ false)). rw (by-groups (q .1)) (tests-as (λ w n. (whole-as-mild ∙ w, inl n)) group-26))
+      (λ (q : (t ≡ 34 → ⊥) × (eqb t 34 ≡ false)). rw (by-groups (q .1)) (tests-as (λ w n. (whole-as-mild ∙ w, inl (n .0, n .2))) group-26))
       (eq-cases t 34)
     where
-      at-34 : (w : Bool) → cardWhole fs ≡ w → TagTests (mayCome b fs 34) false (cardWhole fs) (Tag26or34 b fs 34)
+      at-34 : (w : Bool) → cardWhole fs ≡ w → TagTests (comeIn ofTrace timedGroups b fs 34) false (cardWhole fs) (Tag26or34 b fs 34)
       at-34 true w = inr (refl, w, inr refl)
-      at-34 false w = inl (unfold mayCome mayFollow cardWhole in rw w (ne-eqb 34 (suc (lastTag fs)) (λ e. omega (arith, e, low))))
+      at-34 false w = inl (unfold comeIn in rw (sym (whole-as-timed b fs n) ∙ w) (ne-eqb 34 (suc (lastTag fs)) (λ e. omega (arith, e, low))))
 
-      by-groups : eqb t 34 ≡ false → mayCome b fs t ≡ comeIn groups b fs t
-      by-groups n = unfold mayCome mayFollow comeIn ofTrace ofEntry in rw (n, or-false (eqb t 32))
+      by-groups : eqb t 34 ≡ false → comeIn ofTrace timedGroups b fs t ≡ comeIn mildTrace timedGroups b fs t
+      by-groups n = unfold comeIn ofTrace ofEntry mildTrace in rw (n, or-false (eqb t 32))
 
-      group-26 : TagTests (comeIn groups b fs t) (comeIn mildGroups b fs t) (endsGroup mildGroups (lastTag fs)) ((b ≡ false) × (t ≡ 26))
-      group-26 = unfold groups mildGroups beginsGroup _upTo_ in come-more mildGroups (26 upTo 26) refl (omega arith) b fs (omega (arith, low)) t
+      group-26 : TagTests (comeIn mildTrace timedGroups b fs t) (comeIn mildTrace mildGroups b fs t) (endsGroup mildGroups (lastTag fs)) ((b ≡ false) × (lastTag fs < 26) × (t ≡ 26))
+      group-26 = unfold timedGroups mildGroups mildTrace beginsGroup _upTo_ in come-more mildTrace mildGroups [] (26 upTo 26) refl refl b fs (λ e. omega (arith, e, low)) t
 
-  pub mild-comes : (t : ℕ) → comeIn mildGroups b fs t ≡ true → mayCome b fs t ≡ true
-  mild-comes t = still-comes (tag-as-mild t)
+  pub mild-comes : (t : ℕ) → comeIn mildTrace mildGroups b fs t ≡ true → mayCome b fs t ≡ true
+  mild-comes t m = timed-comes b fs n t (still-comes (tag-as-mild t) m)
 
   -- an entry that may come is of pins
-  pins-come : (f : Field) → comeIn mildGroups b fs (f .tag) ≡ true → pinned (entryOf f) ≡ entryOf f
+  pins-come : (f : Field) → comeIn mildTrace mildGroups b fs (f .tag) ≡ true → pinned (entryOf f) ≡ entryOf f
   unfolding pinned pinsOf entryOf bodyOf
   pins-come f m = ⊎-elim
       (λ (q : (f .tag ≡ 34) × (eqb (f .tag) 34 ≡ true)). let z : false ≡ true = sym never-34 ∙ (rw (q .0) at m) in let y : _≡_ {A = ℕ} 0 1 = cc in absurd (omega arith))
@@ -217,31 +194,38 @@ abbrev pub Unheated : List ℕ → Type 0
 Unheated bytes = Newer Tag26or34 bytes → ⊥
 
 abbrev Also : List Field → Past → Type 0
-Also fs past = (lastTag fs ≤ 25) × Cool past
+Also fs past = (lastTag fs ≤ 25) × (lastTag fs ≡ 23 → ⊥) × Cool past
 
-alike : (fs : List Field) (past : Past) → CardRight fs → Also fs past → Alike defined mild Tag26or34 Also fs past
-unfolding defined mild
+alike : (fs : List Field) (past : Past) → CardRight fs → Also fs past → Alike timed mild Tag26or34 Also fs past
+unfolding defined timed mild
 alike fs past r q = record {
-  tag = tag-as-mild (begun past) fs (q .0);
-  known = mild-comes (begun past) fs (q .0);
-  card = λ f b m o. (unfold lastTag in low f m o, q .1);
-  entry = λ f n. ap (entryRefusal (cardOf fs) past) (sym (as-pins f n)) ∙ same-entry (cardOf fs) (card-good fs r (n .whole)) past (q .1) (entryOf f);
+  tag = tag-as-mild (begun past) fs (q .0) (q .1);
+  known = mild-comes (begun past) fs (q .0) (q .1);
+  card = λ f b m o. (unfold lastTag in low f m o, unfold lastTag in other-tag f m, q .2);
+  entry = λ f n. ap (timedEntry (cardOf fs) past) (sym (as-pins f n)) ∙ same-entry (cardOf fs) (card-good fs r (n .whole)) past (q .2) (entryOf f);
   taken = λ f n. ap (takenFor (cardOf fs) past) (sym (as-pins f n)) ∙ same-taken (cardOf fs) past (entryOf f);
-  also = λ f n e. (q .0, cool-next (cardOf fs) past (entryOf f) (q .1));
-  end = λ w. same-end (cardOf fs) (card-good fs r w) past (q .1);
-  verdict = λ w t n. same-verdict (cardOf fs) (card-good fs r w) past (q .1) t;
+  also = λ f n e. (q .0, q .1, cool-next (cardOf fs) past (entryOf f) (q .2));
+  end = λ w. same-end (cardOf fs) (card-good fs r w) past (q .2);
+  verdict = λ w t n. same-verdict (cardOf fs) (card-good fs r w) past (q .2) t;
 }
   where
-    low : (f : Field) → comeIn mildGroups (begun past) fs (f .tag) ≡ true → ofTrace (f .tag) ≡ false → f .tag ≤ 25
+    low : (f : Field) → comeIn mildTrace mildGroups (begun past) fs (f .tag) ≡ true → ofTrace (f .tag) ≡ false → f .tag ≤ 25
     low f = unfold all endsGroup mildGroups _upTo_ in card-low 25 mildGroups refl refl (begun past) fs (f .tag) (q .0)
 
+    other-tag : (f : Field) → comeIn mildTrace mildGroups (begun past) fs (f .tag) ≡ true → f .tag ≡ 23 → ⊥
+    other-tag f = unfold mildGroups mildTrace beginsGroup endsGroup _upTo_ in never-comes mildTrace mildGroups 22 refl refl refl (begun past) fs (f .tag)
+
     as-pins : (f : Field) → Enters mild fs past f → pinned (entryOf f) ≡ entryOf f
-    as-pins f n = pins-come (begun past) fs (q .0) f (unfold mild in n .may)
+    as-pins f n = pins-come (begun past) fs (q .0) (q .1) f (unfold mild in n .may)
 
 module _ (bytes : List ℕ) where
-  -- the entries taken and the verdict are what they were, or tag 26 or 34 stands where it was a wrong tag
-  pub as-mild : (judged bytes ≡ judgedBy mild bytes) ⊎ Heated bytes (judgedBy mild bytes)
-  as-mild = rw (← defined-judged bytes) (agree defined mild Tag26or34 Also alike bytes (unfold lastTag Cool in (omega arith, tt)))
+  -- just before nWR the entries taken and the verdict were what they had been, or tag 26 or 34 stands where it was a wrong tag
+  pub as-mild : (judgedBy timed bytes ≡ judgedBy mild bytes) ⊎ Heated bytes (judgedBy mild bytes)
+  as-mild = agree timed mild Tag26or34 Also alike bytes (unfold lastTag Cool in (omega arith, (λ e. omega (arith, e)), tt))
+
+  -- and they are still, or tag 23, 26 or 34 stands so, or an entry that was taken writes MA 1
+  pub mild-ever : (judged bytes ≡ judgedBy mild bytes) ⊎ (Heated bytes (judgedBy mild bytes) ⊎ Programmed bytes (judgedBy mild bytes))
+  mild-ever = behind-it (Programmed bytes) as-mild (as-timed bytes)
 
 -- ---- the lines
 pub cool-lines : (past : Past) → Cool past → entryLines past ≡ mildLines past
@@ -249,13 +233,15 @@ unfolding Cool entryLines mildLines unlessSensed
 cool-lines [] c = refl
 cool-lines (e ∷ t) c = rw (c .0, cool-lines t (c .1))
 
--- ---- a file without those tags
-module _ (bytes : List ℕ) (unheated : Unheated bytes) where
+-- ---- a file without tags 23, 26 and 34, of which no entry that was taken writes MA 1
+module _ (bytes : List ℕ) (unheated : Unheated bytes) (unprogrammed : Unprogrammed bytes (judgedBy mild bytes)) where
   same-mild : judged bytes ≡ judgedBy mild bytes
   same-mild = ⊎-elim
       (λ (e : judged bytes ≡ judgedBy mild bytes). e)
-      (λ (t : Heated bytes (judgedBy mild bytes)). absurd (unheated (t .there)))
-      (as-mild bytes)
+      (⊎-elim
+      (λ (h : Heated bytes (judgedBy mild bytes)). absurd (unheated (h .there)))
+      (λ (p : Programmed bytes (judgedBy mild bytes)). absurd (not-programmed bytes _ unprogrammed p)))
+      (mild-ever bytes)
 
   pub verdict-as-mild : judgeFile bytes ≡ judgeMild bytes
   unfolding judgeFile judgeMild
@@ -269,10 +255,10 @@ module _ (bytes : List ℕ) (unheated : Unheated bytes) where
       (cool-lines (judgedBy mild bytes .past) (all-have mild Cool (unfold mild in cool-next) bytes (unfold Cool in tt)))
 
 -- ---- what that judge shares with the definitions is as it was for it: the lengths and the ranges of all tags but these
-pub length-as-mild : (t l : ℕ) → (t ≡ 26 → ⊥) → (t ≡ 34 → ⊥) → lengthGood t l ≡ isListed mildLengths t l
-unfolding lengthGood isListed lengths mildLengths _of_
-length-as-mild t l m n = rw (ne-eqb 26 t (λ e. m (sym e)), ne-eqb 34 t (λ e. n (sym e)))
+pub length-as-mild : (t l : ℕ) → (t ≡ 23 → ⊥) → (t ≡ 26 → ⊥) → (t ≡ 34 → ⊥) → lengthGood t l ≡ isListed mildLengths t l
+unfolding isListed timedLengths mildLengths _of_
+length-as-mild t l k m n = length-as-timed t l k ∙ rw (ne-eqb 26 t (λ e. m (sym e)), ne-eqb 34 t (λ e. n (sym e)))
 
-pub good-as-mild : (fs : List Field) (f : Field) → (f .tag ≡ 26 → ⊥) → fieldGood fs f ≡ mildGood fs f
-unfolding fieldGood mildGood
-good-as-mild fs f n = rw (ne-eqb (f .tag) 26 n)
+pub good-as-mild : (fs : List Field) (f : Field) → (f .tag ≡ 23 → ⊥) → (f .tag ≡ 26 → ⊥) → fieldGood fs f ≡ mildGood fs f
+unfolding timedGood mildGood
+good-as-mild fs f k n = good-as-timed fs f k ∙ rw (ne-eqb (f .tag) 26 n)

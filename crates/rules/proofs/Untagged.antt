@@ -1,6 +1,7 @@
 -- A file without tag 25 in its card has the verdict and the lines that it had before two parts could share a bus: every file had, just before temperature,
--- unless tag 25 stands where its card could end, where it was refused by 2. By `Unheated` every file has still, unless tag 25, 26 or 34 stands so.
-use Prim.Native.Nat.{ℕ, zero, suc, _+_, _-_, _≤_}
+-- unless tag 25 stands where its card could end, where it was refused by 2. By `Unheated` every file has still, unless tag 23, 25, 26 or 34
+-- stands so or an entry that was taken writes MA 1.
+use Prim.Native.Nat.{ℕ, zero, suc, _+_, _-_, _≤_, _<_}
 use mathlib.Core.Path.{_≡_, refl, ap, sym, _∙_, fun-ext}
 use mathlib.Core.Logic.{_⊎_, ⊎-elim}
 use mathlib.Core.Bool.{Bool, true, false, _||_}
@@ -13,6 +14,7 @@ use Rattle.rules.specs.Lists.{all, when, Every}
 use Rattle.rules.specs.Card.{Card}
 use Rattle.rules.specs.Units.{Delays, delaysOf}
 use Rattle.rules.specs.Commands.{MRR, RD, WR, Command, is}
+use Rattle.rules.specs.Registers.{Modes}
 use Rattle.rules.specs.Whose.{Whose, sole, isOf, partOf, other, whose, parts}
 use Rattle.rules.specs.Levels.{Level, Move, readPins}
 use Rattle.rules.specs.Past.{Taken, Past, ofPart, levelAt, counterAt, countedStamps, bankAt}
@@ -30,8 +32,10 @@ use Rattle.rules.proofs.PinReads.{pins-are}
 use Rattle.rules.proofs.Waking.{read-alone}
 use Rattle.rules.proofs.Table.{every-both}
 use Rattle.rules.proofs.Walks.{judgedBy, Newer, Met, TagTests, tests-as, still-comes, Alike, agree, behind-it, all-have}
-use Rattle.rules.proofs.Mild.{pinsOf, pinned, mildTaken, mildBook, mildBooks, mildEntry, mildEnd, mildVerdict, comeIn, mildGroups, mildLengths, mildGood, mild, mildLines}
-use Rattle.rules.proofs.Unheated.{Cool, card-low, ends-more, come-more, whole-as-mild, mild-comes, Heated, Unheated, as-mild, cool-lines, length-as-mild, good-as-mild}
+use Rattle.rules.proofs.Timed.{timedRules, comeIn}
+use Rattle.rules.proofs.Unprogrammed.{ends-more, come-more, Programmed, Unprogrammed, not-programmed}
+use Rattle.rules.proofs.Mild.{pinsOf, pinned, mildTaken, mildBook, mildBooks, mildEntry, mildEnd, mildVerdict, mildTrace, mildGroups, mildLengths, mildGood, mild, mildLines}
+use Rattle.rules.proofs.Unheated.{Cool, card-low, whole-as-mild, mild-comes, Heated, Unheated, mild-ever, cool-lines, length-as-mild, good-as-mild}
 use Rattle.rules.proofs.Alone.{aloneRead, aloneTaken, noAnswer, aloneLook, aloneRules, aloneEntry, aloneEnd, aloneVerdict, aloneGroups, aloneLengths, aloneGood, alone, judgeAlone, aloneLine, aloneLines, linesAlone}
 
 -- ---- a past of one part
@@ -68,7 +72,7 @@ unfolding noAnswer find found
 none-found card = fun-ext (λ q. rw (back-none _ (means (q .ask) .passed)))
 
 -- ---- rules 25 to 27 are silent
-abbrev Mine : Source Asked ℕ → Type 0
+abbrev Mine : Source Asked Modes → Type 0
 Mine s = (q : Question) × (s .ask ≡ mine q)
 
 from-mine : (bs : List ℕ) (d : ℕ) (a : Ask) → Every Mine (from bs d a)
@@ -86,13 +90,13 @@ module _ (own : Answers) where
   unfolding lookBoth turned noAnswer
   none-asked q h = rw h
 
-  across-none : (g : ℕ) (ss : List (Source Asked ℕ)) → Every Mine ss → permittedBy (lookBoth own noAnswer) (across g ss) ≡ 0
+  across-none : (g : ℕ) (ss : List (Source Asked Modes)) → Every Mine ss → permittedBy (lookBoth own noAnswer) (across g ss) ≡ 0
   unfolding Every across permittedBy
   across-none g [] h = refl
   across-none g (s ∷ ss) h = rw (none-asked (h .0 .0) (h .0 .1), across-none g ss (h .1)) (unfold permitted in omega arith)
 
-  silent : (d : Delays) (c : Command) (m : Move) (n : ℕ) → Every (λ q. bound (lookBoth own noAnswer) q ≡ 0) (drop 22 (delayRules d c m n))
-  unfolding Every delayRules bound rule
+  silent : (d : Delays) (c : Command) (m : Move) (n : ℕ) → Every (λ q. bound (lookBoth own noAnswer) q ≡ 0) (drop 22 (timedRules d c m n))
+  unfolding Every timedRules delayRules bound rule
   silent d c m n =
       let reading = when (is RD c || is MRR c) (bankAt c n ∷ []) in
       let writing = when (is WR c) (bankAt c n ∷ []) in
@@ -101,7 +105,7 @@ module _ (own : Answers) where
       & across-none (d .gap) _ (lagging-mine reading (λ rl wl. wl + 5 + d .twtr) lastWR)
       & tt
 
-pub quiet-tail : (look : Lookup) (t : ℕ) (xs ys : List (Rule Asked ℕ)) → Every (λ q. bound look q ≡ 0) ys → firstBroken look (xs ++ ys) t ≡ firstBroken look xs t
+pub quiet-tail : (look : Lookup) (t : ℕ) (xs ys : List (Rule Asked Modes)) → Every (λ q. bound look q ≡ 0) ys → firstBroken look (xs ++ ys) t ≡ firstBroken look xs t
 unfolding firstBroken Every
 quiet-tail look t [] [] h = refl
 quiet-tail look t [] (y ∷ ys) h = rw (h .0, le-leb 0 t (omega arith)) (quiet-tail look t [] ys (h .1))
@@ -140,12 +144,12 @@ module _ (card : Card) (one : card .paired ≡ false) (past : Past) (s : Sole pa
     same-taken = rw (same-read, one)
 
     same-rules : (d : Delays) (c : Command) (m : Move) (n t : ℕ) →
-        firstBroken (lookBoth (find card past) (find card [])) (delayRules d c m n) t ≡ firstBroken (aloneLook card past) (aloneRules d c m n) t
+        firstBroken (lookBoth (find card past) (find card [])) (timedRules d c m n) t ≡ firstBroken (aloneLook card past) (aloneRules d c m n) t
     unfolding aloneLook aloneRules
     same-rules d c m n t =
-        ap (λ (o : Answers). firstBroken (lookBoth (find card past) o) (delayRules d c m n) t) (none-found card)
-        ∙ sym (ap (λ (l : List (Rule Asked ℕ)). firstBroken (lookBoth (find card past) noAnswer) l t) (take-append-drop 22 (delayRules d c m n)))
-        ∙ quiet-tail (lookBoth (find card past) noAnswer) t (take 22 (delayRules d c m n)) (drop 22 (delayRules d c m n)) (silent (find card past) d c m n)
+        ap (λ (o : Answers). firstBroken (lookBoth (find card past) o) (timedRules d c m n) t) (none-found card)
+        ∙ sym (ap (λ (l : List (Rule Asked Modes)). firstBroken (lookBoth (find card past) noAnswer) l t) (take-append-drop 22 (timedRules d c m n)))
+        ∙ quiet-tail (lookBoth (find card past) noAnswer) t (take 22 (timedRules d c m n)) (drop 22 (timedRules d c m n)) (silent (find card past) d c m n)
 
 module _ (card : Card) (one : card .paired ≡ false) (past : Past) (s : Sole past) where
   same-entry : (e : Entry) → mildEntry card past e ≡ aloneEntry card past e
@@ -178,18 +182,18 @@ abbrev pub Tag25 : (entries : Bool) → List Field → ℕ → Type 0
 Tag25 entries fs t = (entries ≡ false) × (t ≡ 25)
 
 module _ (b : Bool) (fs : List Field) (low : lastTag fs ≤ 22) where
-  tag-as-alone : (t : ℕ) → TagTests (comeIn mildGroups b fs t) (comeIn aloneGroups b fs t) (cardWhole fs) (Tag25 b fs t)
-  unfolding mildGroups aloneGroups beginsGroup _upTo_
-  tag-as-alone t = tests-as (λ w n. (whole-as-mild b fs (omega (arith, low)) ∙ whole-25 ∙ w, n)) group-25
+  tag-as-alone : (t : ℕ) → TagTests (comeIn mildTrace mildGroups b fs t) (comeIn mildTrace aloneGroups b fs t) (cardWhole fs) (Tag25 b fs t)
+  unfolding mildTrace mildGroups aloneGroups beginsGroup _upTo_
+  tag-as-alone t = tests-as (λ w n. (whole-as-mild b fs (omega (arith, low)) (λ e. omega (arith, e, low)) ∙ whole-25 ∙ w, (n .0, n .2))) group-25
     where
       whole-25 : endsGroup mildGroups (lastTag fs) ≡ endsGroup aloneGroups (lastTag fs)
-      whole-25 = ends-more aloneGroups (25 upTo 25) (lastTag fs) (omega (arith, low))
+      whole-25 = ends-more aloneGroups [] (25 upTo 25) (lastTag fs) (λ e. omega (arith, e, low))
 
-      group-25 : TagTests (comeIn mildGroups b fs t) (comeIn aloneGroups b fs t) (endsGroup aloneGroups (lastTag fs)) (Tag25 b fs t)
-      group-25 = come-more aloneGroups (25 upTo 25) refl (omega arith) b fs (omega (arith, low)) t
+      group-25 : TagTests (comeIn mildTrace mildGroups b fs t) (comeIn mildTrace aloneGroups b fs t) (endsGroup aloneGroups (lastTag fs)) ((b ≡ false) × (lastTag fs < 25) × (t ≡ 25))
+      group-25 = come-more mildTrace aloneGroups [] (25 upTo 25) refl refl b fs (λ e. omega (arith, e, low)) t
 
-  pub alone-comes : (t : ℕ) → comeIn aloneGroups b fs t ≡ true → mayCome b fs t ≡ true
-  alone-comes t m = mild-comes b fs (omega (arith, low)) t (still-comes (tag-as-alone t) m)
+  pub alone-comes : (t : ℕ) → comeIn mildTrace aloneGroups b fs t ≡ true → mayCome b fs t ≡ true
+  alone-comes t m = mild-comes b fs (omega (arith, low)) (λ e. omega (arith, e, low)) t (still-comes (tag-as-alone t) m)
 
 -- tag 25 stands so, and what was said of the file is a wrong tag there
 abbrev pub Paired : List ℕ → Judged → Type 0
@@ -220,7 +224,7 @@ alike fs past r q = record {
     one : cardOf fs .paired ≡ false
     one = unfold cardOf in q .without
 
-    small : (f : Field) → comeIn aloneGroups (begun past) fs (f .tag) ≡ true → ofTrace (f .tag) ≡ false → f .tag ≤ 22
+    small : (f : Field) → comeIn mildTrace aloneGroups (begun past) fs (f .tag) ≡ true → ofTrace (f .tag) ≡ false → f .tag ≤ 22
     small f = unfold all endsGroup aloneGroups _upTo_ in card-low 22 aloneGroups refl refl (begun past) fs (f .tag) (q .low)
 
 module _ (bytes : List ℕ) where
@@ -228,9 +232,10 @@ module _ (bytes : List ℕ) where
   pub as-alone : (judgedBy mild bytes ≡ judgedBy alone bytes) ⊎ Paired bytes (judgedBy alone bytes)
   as-alone = agree mild alone Tag25 Also alike bytes (record { low = unfold lastTag in omega arith; without = unfold has in refl; only = unfold Sole in tt })
 
-  -- and they are still, or tag 25, 26 or 34 stands so
-  pub alone-ever : (judged bytes ≡ judgedBy alone bytes) ⊎ (Paired bytes (judgedBy alone bytes) ⊎ Heated bytes (judgedBy alone bytes))
-  alone-ever = behind-it (Heated bytes) as-alone (as-mild bytes)
+  -- and they are still, or tag 23, 25, 26 or 34 stands so, or an entry that was taken writes MA 1
+  pub alone-ever : (judged bytes ≡ judgedBy alone bytes)
+      ⊎ (Paired bytes (judgedBy alone bytes) ⊎ (Heated bytes (judgedBy alone bytes) ⊎ Programmed bytes (judgedBy alone bytes)))
+  alone-ever = behind-it (λ j. Heated bytes j ⊎ Programmed bytes j) as-alone (mild-ever bytes)
 
 -- ---- the lines
 line-same : (t : ℕ) (c : Command) (w : Whose) (n : ℕ) → w ≡ sole → entryLine t c w n ≡ aloneLine t c n
@@ -257,12 +262,16 @@ alone-lines bytes e =
     cool-on : (card : Card) (past : Past) (e : Entry) → Cool past → Cool (aloneTaken card past e ∷ past)
     cool-on card past e c = unfold Cool aloneTaken in (refl, c)
 
--- ---- a file without tags 25, 26 and 34
-module _ (bytes : List ℕ) (untagged : Untagged bytes) (unheated : Unheated bytes) where
+-- ---- a file without tags 23, 25, 26 and 34, of which no entry that was taken writes MA 1
+module _ (bytes : List ℕ) (untagged : Untagged bytes) (unheated : Unheated bytes) (unprogrammed : Unprogrammed bytes (judgedBy alone bytes)) where
   same-alone : judged bytes ≡ judgedBy alone bytes
   same-alone = ⊎-elim
       (λ (e : judged bytes ≡ judgedBy alone bytes). e)
-      (⊎-elim (λ (p : Paired bytes (judgedBy alone bytes)). absurd (untagged (p .there))) (λ (h : Heated bytes (judgedBy alone bytes)). absurd (unheated (h .there))))
+      (⊎-elim
+      (λ (p : Paired bytes (judgedBy alone bytes)). absurd (untagged (p .there)))
+      (⊎-elim
+      (λ (h : Heated bytes (judgedBy alone bytes)). absurd (unheated (h .there)))
+      (λ (p : Programmed bytes (judgedBy alone bytes)). absurd (not-programmed bytes _ unprogrammed p))))
       (alone-ever bytes)
 
   pub verdict-as-alone : judgeFile bytes ≡ judgeAlone bytes
@@ -273,10 +282,10 @@ module _ (bytes : List ℕ) (untagged : Untagged bytes) (unheated : Unheated byt
   lines-as-alone = alone-lines bytes same-alone
 
 -- ---- what that judge shares with the definitions is as it was for it: the lengths and the ranges of all tags but these
-pub length-as-alone : (t l : ℕ) → (t ≡ 25 → ⊥) → (t ≡ 26 → ⊥) → (t ≡ 34 → ⊥) → lengthGood t l ≡ isListed aloneLengths t l
+pub length-as-alone : (t l : ℕ) → (t ≡ 23 → ⊥) → (t ≡ 25 → ⊥) → (t ≡ 26 → ⊥) → (t ≡ 34 → ⊥) → lengthGood t l ≡ isListed aloneLengths t l
 unfolding isListed mildLengths aloneLengths _of_
-length-as-alone t l n m k = length-as-mild t l m k ∙ rw (ne-eqb 25 t (λ e. n (sym e)))
+length-as-alone t l j n m k = length-as-mild t l j m k ∙ rw (ne-eqb 25 t (λ e. n (sym e)))
 
-pub good-as-alone : (fs : List Field) (f : Field) → (f .tag ≡ 25 → ⊥) → (f .tag ≡ 26 → ⊥) → fieldGood fs f ≡ aloneGood fs f
+pub good-as-alone : (fs : List Field) (f : Field) → (f .tag ≡ 23 → ⊥) → (f .tag ≡ 25 → ⊥) → (f .tag ≡ 26 → ⊥) → fieldGood fs f ≡ aloneGood fs f
 unfolding mildGood aloneGood
-good-as-alone fs f n m = good-as-mild fs f m ∙ rw (ne-eqb (f .tag) 25 n)
+good-as-alone fs f k n m = good-as-mild fs f k m ∙ rw (ne-eqb (f .tag) 25 n)

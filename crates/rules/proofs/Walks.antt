@@ -1,6 +1,6 @@
 -- Files by any judge of fields; and that two judges say the same of a file, where they do the same with every field that it comes to, or a tag comes that only
--- one of them knows. So that a file which uses nothing of a request has the verdict it had is proved of what the request changed, and each such theorem
--- follows on the last.
+-- one of them knows, or an entry is taken of which one of them knows less. So that a file which uses nothing of a request has the verdict it had is proved of what
+-- the request changed, and each such theorem follows on the last.
 use Prim.Native.Nat.{ℕ, zero, suc, _+_, _*_, _<_}
 use mathlib.Core.Path.{_≡_, refl, ap, sym, _∙_, subst}
 use mathlib.Core.Logic.{_⊎_, inl, inr, ⊎-elim}
@@ -133,6 +133,56 @@ defined-file (suc k) fs past at bs =
 pub defined-judged : (bs : List ℕ) → judgedBy defined bs ≡ judged bs
 unfolding judgedBy judged
 defined-judged bs = defined-file (suc (length bs)) [] [] 0 bs
+
+-- ---- what every entry that is taken keeps, the entries taken of a file have
+module _ (j : Judge) (P : Past → Type 0) (next : (card : Card) (past : Past) (e : Entry) → P past → P (j .taken card past e ∷ past)) where
+  abbrev Has : Step → Type 0
+  Has (goesOn fs past at rest) = P past
+  Has (ends v) = Unit {0}
+
+  module _ (fs : List Field) (past : Past) (at : ℕ) (p : P past) where
+    unless-refused : (o : Option Refusal) (s : Step) → Has s → Has (orRefused at o s)
+    unfolding orRefused
+    unless-refused none s h = h
+    unless-refused (some x) s h = tt
+
+    has-closed : (v : FileVerdict) (n : ℕ) (rest : List ℕ) → Has (closing v n rest)
+    unfolding closing
+    has-closed v n [] = tt
+    has-closed v n (b ∷ bs) = tt
+
+    has-card : (f : Field) (rest : List ℕ) → Has (cardStep fs past at f rest)
+    unfolding cardStep
+    has-card f rest = go (fieldGood fs f)
+      where
+        go : (x : Bool) → Has (cond x (goesOn (f ∷ fs) past (at + sizeOf f) rest) (ends (refused 4 0 at 0)))
+        go true = p
+        go false = tt
+
+    has-step : (h : Head) → Has (byHeadBy j fs past at h)
+    unfolding byHeadBy
+    has-step cut = tt
+    has-step badTag = tt
+    has-step badLength = tt
+    has-step (whole f rest) = go (ofEntry (f .tag)) (eqb (f .tag) 33)
+      where
+        go : (x y : Bool) → Has (pick j fs past at f rest x y)
+        go true y = unfold entryBy in unless-refused _ _ (next (cardOf fs) past (entryOf f) p)
+        go false true = unfold endBy in unless-refused _ _ (has-closed _ _ rest)
+        go false false = has-card f rest
+
+  has-file : (k : ℕ) (fs : List Field) (past : Past) (at : ℕ) (bs : List ℕ) → P past → P (fileBy j k fs past at bs .past)
+  has-file zero fs past at bs p = unfold fileBy in p
+  has-file (suc k) fs past at bs p = rw (by-step j k fs past at bs) (go (stepBy j fs past at bs) (unfold stepBy in has-step fs past at p _) (λ fs′ past′ at′ rest. has-file k fs′ past′ at′ rest))
+    where
+      go : (s : Step) → Has s → ((fs′ : List Field) (past′ : Past) (at′ : ℕ) (rest : List ℕ) → P past′ → P (fileBy j k fs′ past′ at′ rest .past)) →
+          P (behind (fileBy j k) past s .past)
+      go (goesOn fs′ past′ at′ rest) h ih = unfold behind in ih fs′ past′ at′ rest h
+      go (ends v) h ih = unfold behind in p
+
+  pub all-have : (bytes : List ℕ) → P [] → P (judgedBy j bytes .past)
+  unfolding judgedBy
+  all-have bytes p = has-file (suc (length bytes)) [] [] 0 bytes p
 
 -- ---- what stands at a place of the file: a field whose tag may come, with a listed length and a whole value, or none
 pub record Sized (f : Field) : Type 0 where
@@ -312,26 +362,31 @@ pub record Enters (j : Judge) (fs : List Field) (past : Past) (f : Field) : Type
   pub isEntry : ofEntry (f .tag) ≡ true
 
 -- ---- two judges over a file, a the newer. `Also` holds at each place that the file comes to, of the fields of the card and the entries that were taken
-module _ (a b : Judge) (Is : (entries : Bool) → List Field → ℕ → Type 0) (Also : List Field → Past → Type 0) where
-  -- behind these they do the same, and `Also` is kept: with a tag, unless it `Is` so; with an entry that may come; and, behind a whole card, with the end
-  pub record Alike (fs : List Field) (past : Past) : Type 0 where
-    pub tag : (t : ℕ) → TagTests (a .come (begun past) fs t) (b .come (begun past) fs t) (cardWhole fs) (Is (begun past) fs t)
-    pub known : (t : ℕ) → b .come (begun past) fs t ≡ true → mayCome (begun past) fs t ≡ true
-    pub card : (f : Field) → begun past ≡ false → b .come (begun past) fs (f .tag) ≡ true → ofTrace (f .tag) ≡ false → Also (f ∷ fs) past
-    pub entry : (f : Field) → Enters b fs past f → a .entry (cardOf fs) past (entryOf f) ≡ b .entry (cardOf fs) past (entryOf f)
-    pub taken : (f : Field) → Enters b fs past f → a .taken (cardOf fs) past (entryOf f) ≡ b .taken (cardOf fs) past (entryOf f)
-    pub also : (f : Field) → Enters b fs past f → b .entry (cardOf fs) past (entryOf f) ≡ none → Also fs (b .taken (cardOf fs) past (entryOf f) ∷ past)
-    pub end : cardWhole fs ≡ true → (t : ℕ) → a .end (cardOf fs) past t ≡ b .end (cardOf fs) past t
-    pub verdict : cardWhole fs ≡ true → (t : ℕ) → b .end (cardOf fs) past t ≡ none → a .verdict (cardOf fs) past t ≡ b .verdict (cardOf fs) past t
+-- behind these they do the same, and `Also` is kept: with a tag, unless it `Is` so; with an entry that may come; and, behind a whole card, with the end
+pub record Alike (a b : Judge) (Is : (entries : Bool) → List Field → ℕ → Type 0) (Also : List Field → Past → Type 0) (fs : List Field) (past : Past) : Type 0 where
+  pub tag : (t : ℕ) → TagTests (a .come (begun past) fs t) (b .come (begun past) fs t) (cardWhole fs) (Is (begun past) fs t)
+  pub known : (t : ℕ) → b .come (begun past) fs t ≡ true → mayCome (begun past) fs t ≡ true
+  pub card : (f : Field) → begun past ≡ false → b .come (begun past) fs (f .tag) ≡ true → ofTrace (f .tag) ≡ false → Also (f ∷ fs) past
+  pub entry : (f : Field) → Enters b fs past f → a .entry (cardOf fs) past (entryOf f) ≡ b .entry (cardOf fs) past (entryOf f)
+  pub taken : (f : Field) → Enters b fs past f → a .taken (cardOf fs) past (entryOf f) ≡ b .taken (cardOf fs) past (entryOf f)
+  pub also : (f : Field) → Enters b fs past f → b .entry (cardOf fs) past (entryOf f) ≡ none → Also fs (b .taken (cardOf fs) past (entryOf f) ∷ past)
+  pub end : cardWhole fs ≡ true → (t : ℕ) → a .end (cardOf fs) past t ≡ b .end (cardOf fs) past t
+  pub verdict : cardWhole fs ≡ true → (t : ℕ) → b .end (cardOf fs) past t ≡ none → a .verdict (cardOf fs) past t ≡ b .verdict (cardOf fs) past t
 
-  module _ (alike : (fs : List Field) (past : Past) → CardRight fs → Also fs past → Alike fs past) (bytes : List ℕ) where
+-- they need be so only until an entry is taken of which the older one knows less: of the entries that were taken `Gone` holds then, and every further one keeps it
+module _ (a b : Judge) (Is : (entries : Bool) → List Field → ℕ → Type 0) (Also : List Field → Past → Type 0) (Gone : Past → Type 0)
+    (keeps : (card : Card) (past : Past) (e : Entry) → Gone past → Gone (b .taken card past e ∷ past)) where
+  abbrev AlsoOrGone : List Field → Past → Type 0
+  AlsoOrGone fs past = Also fs past ⊎ Gone past
+
+  module _ (alike : (fs : List Field) (past : Past) → CardRight fs → Also fs past → Alike a b Is AlsoOrGone fs past) (bytes : List ℕ) where
     -- both go on, where all is still so, or both end
     data Same : Step → Step → Type 0 where
-      on : {fs : List Field} {past : Past} {at : ℕ} {rest : List ℕ} → Place bytes fs past at rest → Also fs past → Same (goesOn fs past at rest) (goesOn fs past at rest)
+      on : {fs : List Field} {past : Past} {at : ℕ} {rest : List ℕ} → Place bytes fs past at rest → AlsoOrGone fs past → Same (goesOn fs past at rest) (goesOn fs past at rest)
       off : {v : FileVerdict} → Same (ends v) (ends v)
 
     module _ (fs : List Field) (past : Past) (at : ℕ) (q : Also fs past) where
-      entered : (f : Field) (rest : List ℕ) → Place bytes fs past at (bytesOf f ++ rest) → RightForm (begun past) fs f → Alike fs past → Enters b fs past f →
+      entered : (f : Field) (rest : List ℕ) → Place bytes fs past at (bytesOf f ++ rest) → RightForm (begun past) fs f → Alike a b Is AlsoOrGone fs past → Enters b fs past f →
           Same (entryBy a fs past at f rest) (entryBy b fs past at f rest)
       unfolding entryBy
       entered f rest p form k n = rw (k .entry f n, k .taken f n) (go (b .entry (cardOf fs) past (entryOf f)) refl)
@@ -342,7 +397,7 @@ module _ (a b : Judge) (Is : (entries : Bool) → List Field → ℕ → Type 0)
           go none e = unfold orRefused in on (place-entry fs past at f rest p form (n .isEntry) _) (k .also f n e)
           go (some x) e = unfold orRefused in off
 
-      ended : (f : Field) (rest : List ℕ) → Alike fs past → cardWhole fs ≡ true → Same (endBy a fs past at f rest) (endBy b fs past at f rest)
+      ended : (f : Field) (rest : List ℕ) → Alike a b Is AlsoOrGone fs past → cardWhole fs ≡ true → Same (endBy a fs past at f rest) (endBy b fs past at f rest)
       unfolding endBy
       ended f rest k w = rw (k .end w (endOf f)) (go rest (b .end (cardOf fs) past (endOf f)) refl)
         where
@@ -353,7 +408,7 @@ module _ (a b : Judge) (Is : (entries : Bool) → List Field → ℕ → Type 0)
           go (c ∷ cs) none e = unfold orRefused closing in off
           go bs (some x) e = unfold orRefused in off
 
-      carded : (f : Field) (rest : List ℕ) → Place bytes fs past at (bytesOf f ++ rest) → RightForm (begun past) fs f → Alike fs past →
+      carded : (f : Field) (rest : List ℕ) → Place bytes fs past at (bytesOf f ++ rest) → RightForm (begun past) fs f → Alike a b Is AlsoOrGone fs past →
           b .come (begun past) fs (f .tag) ≡ true → ofTrace (f .tag) ≡ false → Same (cardStep fs past at f rest) (cardStep fs past at f rest)
       unfolding cardStep
       carded f rest p form k m o = go (fieldGood fs f) refl
@@ -370,7 +425,7 @@ module _ (a b : Judge) (Is : (entries : Bool) → List Field → ℕ → Type 0)
       same-head is-bad-length p = off
       same-head (is-field f rest m s) p = go (ofEntry (f .tag)) (eqb (f .tag) 33) refl refl
         where
-          k : Alike fs past
+          k : Alike a b Is AlsoOrGone fs past
           k = alike fs past (p .right) q
 
           form : RightForm (begun past) fs f
@@ -384,14 +439,18 @@ module _ (a b : Judge) (Is : (entries : Bool) → List Field → ℕ → Type 0)
           go false true u v = let t = eqb-true (f .tag) 33 v in ended f rest k (behind (omega (arith, t)))
           go false false u v = carded f rest p form k m (unfold ofTrace in rw (u, v))
 
+    abbrev Parted : Judged → Type 0
+    Parted j = Met Is bytes j ⊎ Gone (j .past)
+
     abbrev Agrees : ℕ → List Field → Past → ℕ → List ℕ → Type 0
-    Agrees k fs past at bs = (fileBy a k fs past at bs ≡ fileBy b k fs past at bs) ⊎ Met Is bytes (fileBy b k fs past at bs)
+    Agrees k fs past at bs = (fileBy a k fs past at bs ≡ fileBy b k fs past at bs) ⊎ Parted (fileBy b k fs past at bs)
 
     module _ (k : ℕ) (fs : List Field) (past : Past) (at : ℕ) (q : Also fs past)
         (further : (fs′ : List Field) (past′ : Past) (at′ : ℕ) (rest : List ℕ) → Place bytes fs′ past′ at′ rest → Also fs′ past′ → Agrees k fs′ past′ at′ rest) where
-      same-step : {s t : Step} → Same s t → (behind (fileBy a k) past s ≡ behind (fileBy b k) past t) ⊎ Met Is bytes (behind (fileBy b k) past t)
+      same-step : {s t : Step} → Same s t → (behind (fileBy a k) past s ≡ behind (fileBy b k) past t) ⊎ Parted (behind (fileBy b k) past t)
       unfolding behind
-      same-step (on p q) = further _ _ _ _ p q
+      same-step (on p (inl q)) = further _ _ _ _ p q
+      same-step (on p (inr g)) = inr (inr (has-file b Gone keeps k _ _ _ _ g))
       same-step off = inl refl
 
       same-tag : (bs : List ℕ) → Place bytes fs past at bs → headBy a (begun past) fs bs ≡ headBy b (begun past) fs bs → Agrees (suc k) fs past at bs
@@ -409,70 +468,41 @@ module _ (a b : Judge) (Is : (entries : Bool) → List Field → ℕ → Type 0)
       onward [] p = same-tag [] p (unfold headBy in refl)
       onward (t ∷ rest) p = ⊎-elim
           (λ (e : a .come (begun past) fs t ≡ b .come (begun past) fs t). same-tag (t ∷ rest) p (unfold headBy in rw e))
-          (λ (n : (b .come (begun past) fs t ≡ false) × (cardWhole fs ≡ true) × Is (begun past) fs t). inr (met t rest p n))
+          (λ (n : (b .come (begun past) fs t ≡ false) × (cardWhole fs ≡ true) × Is (begun past) fs t). inr (inl (met t rest p n)))
           (alike fs past (p .right) q .tag t)
 
     walk : (k : ℕ) (fs : List Field) (past : Past) (at : ℕ) (bs : List ℕ) → Place bytes fs past at bs → Also fs past → Agrees k fs past at bs
     walk zero fs past at bs p q = unfold fileBy in inl refl
     walk (suc k) fs past at bs p q = onward k fs past at q (λ fs′ past′ at′ rest. walk k fs′ past′ at′ rest) bs p
 
-    -- so of every file they say the same, or the older one met a tag that it does not know
-    pub agree : Also [] [] → (judgedBy a bytes ≡ judgedBy b bytes) ⊎ Met Is bytes (judgedBy b bytes)
+    -- so of every file they say the same, or the older one met a tag that it does not know, or took an entry of which it knows less
+    pub agree-until : Also [] [] → (judgedBy a bytes ≡ judgedBy b bytes) ⊎ (Met Is bytes (judgedBy b bytes) ⊎ Gone (judgedBy b bytes .past))
     unfolding judgedBy
-    agree q = walk (suc (length bytes)) [] [] 0 bytes place-start q
+    agree-until q = walk (suc (length bytes)) [] [] 0 bytes place-start q
+
+-- where there is no such entry
+module _ (a b : Judge) (Is : (entries : Bool) → List Field → ℕ → Type 0) (Also : List Field → Past → Type 0)
+    (alike : (fs : List Field) (past : Past) → CardRight fs → Also fs past → Alike a b Is Also fs past) (bytes : List ℕ) where
+  pub agree : Also [] [] → (judgedBy a bytes ≡ judgedBy b bytes) ⊎ Met Is bytes (judgedBy b bytes)
+  agree q = ⊎-elim
+      (λ (e : judgedBy a bytes ≡ judgedBy b bytes). inl e)
+      (⊎-elim (λ (m : Met Is bytes (judgedBy b bytes)). inr m) (λ (n : ⊥). absurd n))
+      (agree-until a b Is Also (λ past. ⊥) (λ card past e n. n) ever bytes q)
+    where
+      ever : (fs : List Field) (past : Past) → CardRight fs → Also fs past → Alike a b Is (λ fs past. Also fs past ⊎ ⊥) fs past
+      ever fs past r q = let k = alike fs past r q in record {
+        tag = k .tag;
+        known = k .known;
+        card = λ f b m o. inl (k .card f b m o);
+        entry = k .entry;
+        taken = k .taken;
+        also = λ f n e. inl (k .also f n e);
+        end = k .end;
+        verdict = k .verdict;
+      }
 
 -- such a theorem behind another: what was said at first is said now, or one of the two exceptions holds of it
 pub behind-it : {now then first : Judged} {P : Type 0} (Q : Judged → Type 0) → (then ≡ first) ⊎ P → (now ≡ then) ⊎ Q then → (now ≡ first) ⊎ (P ⊎ Q first)
 behind-it Q (inr p) q = inr (inl p)
 behind-it Q (inl e) (inl q) = inl (q ∙ e)
 behind-it Q (inl e) (inr q) = inr (inr (subst Q e q))
-
--- ---- what every entry that is taken keeps, the entries taken of a file have
-module _ (j : Judge) (P : Past → Type 0) (next : (card : Card) (past : Past) (e : Entry) → P past → P (j .taken card past e ∷ past)) where
-  abbrev Has : Step → Type 0
-  Has (goesOn fs past at rest) = P past
-  Has (ends v) = Unit {0}
-
-  module _ (fs : List Field) (past : Past) (at : ℕ) (p : P past) where
-    unless-refused : (o : Option Refusal) (s : Step) → Has s → Has (orRefused at o s)
-    unfolding orRefused
-    unless-refused none s h = h
-    unless-refused (some x) s h = tt
-
-    has-closed : (v : FileVerdict) (n : ℕ) (rest : List ℕ) → Has (closing v n rest)
-    unfolding closing
-    has-closed v n [] = tt
-    has-closed v n (b ∷ bs) = tt
-
-    has-card : (f : Field) (rest : List ℕ) → Has (cardStep fs past at f rest)
-    unfolding cardStep
-    has-card f rest = go (fieldGood fs f)
-      where
-        go : (x : Bool) → Has (cond x (goesOn (f ∷ fs) past (at + sizeOf f) rest) (ends (refused 4 0 at 0)))
-        go true = p
-        go false = tt
-
-    has-step : (h : Head) → Has (byHeadBy j fs past at h)
-    unfolding byHeadBy
-    has-step cut = tt
-    has-step badTag = tt
-    has-step badLength = tt
-    has-step (whole f rest) = go (ofEntry (f .tag)) (eqb (f .tag) 33)
-      where
-        go : (x y : Bool) → Has (pick j fs past at f rest x y)
-        go true y = unfold entryBy in unless-refused _ _ (next (cardOf fs) past (entryOf f) p)
-        go false true = unfold endBy in unless-refused _ _ (has-closed _ _ rest)
-        go false false = has-card f rest
-
-  has-file : (k : ℕ) (fs : List Field) (past : Past) (at : ℕ) (bs : List ℕ) → P past → P (fileBy j k fs past at bs .past)
-  has-file zero fs past at bs p = unfold fileBy in p
-  has-file (suc k) fs past at bs p = rw (by-step j k fs past at bs) (go (stepBy j fs past at bs) (unfold stepBy in has-step fs past at p _) (λ fs′ past′ at′ rest. has-file k fs′ past′ at′ rest))
-    where
-      go : (s : Step) → Has s → ((fs′ : List Field) (past′ : Past) (at′ : ℕ) (rest : List ℕ) → P past′ → P (fileBy j k fs′ past′ at′ rest .past)) →
-          P (behind (fileBy j k) past s .past)
-      go (goesOn fs′ past′ at′ rest) h ih = unfold behind in ih fs′ past′ at′ rest h
-      go (ends v) h ih = unfold behind in p
-
-  pub all-have : (bytes : List ℕ) → P [] → P (judgedBy j bytes .past)
-  unfolding judgedBy
-  all-have bytes p = has-file (suc (length bytes)) [] [] 0 bytes p

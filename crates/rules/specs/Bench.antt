@@ -1,9 +1,10 @@
 -- The bench card and its starred cases (document 01, "Bench card and its cases"), as files, and a few more that the starred ones do not show: those of low
--- clock-enable, of two parts and of temperature (document 02, One, Nine and Eleven) among them.
+-- clock-enable, of nWR, of two parts and of temperature (document 02, One, Two, Nine and Eleven) among them.
 use Prim.Native.Nat.{ℕ, suc, _-_}
 use mathlib.Core.Path.{_≡_}
 use mathlib.Core.Bool.{Bool, true, false}
 use mathlib.Core.List.{List, [], _∷_, _++_}
+use mathlib.Core.Option.{Option, none, some}
 use lib.Dec.{ltb}
 use lib.IntN.{ℤ, pos, negsuc}
 use lib.ListN.{length, take}
@@ -25,10 +26,10 @@ unfoldable pub onlyIf : Bool → Timing → Timing
 onlyIf true x = x
 onlyIf false x = timing 0 0
 
--- with another period, starting MR2 and tREFI, with tags 19 to 22 if it sleeps, with tag 25 and this gap if it is of two parts, and with tag 26 unless
--- that is 0
-unfoldable pub benchWith : (period mr2 trefi : ℕ) → (sleeps paired : Bool) → (gap raise : ℕ) → Card
-benchWith p v i s d g r = record {
+-- with another period, starting MR2 and tREFI, with tags 19 to 22 if it sleeps, with tag 23 if there is a starting MR1, with tag 25 and this gap if it is of
+-- two parts, and with tag 26 unless that is 0
+unfoldable pub benchWith : (period mr2 trefi : ℕ) → (sleeps : Bool) → (mr1 : Option ℕ) → (paired : Bool) → (gap raise : ℕ) → Card
+benchWith p v i s m d g r = record {
   period = p;
   mr2 = v;
   groups = 8192;
@@ -52,40 +53,45 @@ benchWith p v i s d g r = record {
   txp = onlyIf s (timing 10000 3);
   tckesr = onlyIf s (timing 15000 3);
   txsr = onlyIf s (timing 140000 2);
+  mr1 = m;
   paired = d;
   gap = g;
   raise = r;
 }
 
 unfoldable pub benchAt : (period mr2 : ℕ) → Card
-benchAt p v = benchWith p v 3_900_000 false false 0 0
+benchAt p v = benchWith p v 3_900_000 false none false 0 0
 
 unfoldable pub bench : Card
 bench = benchAt 1250 0x1a
 
 -- a part that sleeps: tCKE is 6 cycles, tXP 8, tCKESR 12, tXSR 112
 unfoldable pub sleeper : Card
-sleeper = benchWith 1250 0x1a 3_900_000 true false 0 0
+sleeper = benchWith 1250 0x1a 3_900_000 true none false 0 0
 
 -- two parts, with this gap
 unfoldable pub pair : ℕ → Card
-pair g = benchWith 1250 0x1a 3_900_000 false true g 0
+pair g = benchWith 1250 0x1a 3_900_000 false none true g 0
 
 -- one that says what code 110 adds, of one part and of two
 unfoldable pub heater : Card
-heater = benchWith 1250 0x1a 3_900_000 false false 0 1875
+heater = benchWith 1250 0x1a 3_900_000 false none false 0 1875
 
 unfoldable pub hotPair : Card
-hotPair = benchWith 1250 0x1a 3_900_000 false true 2 1875
+hotPair = benchWith 1250 0x1a 3_900_000 false none true 2 1875
 
 -- and one whose tREFI is one cycle
 unfoldable pub tight : Card
-tight = benchWith 100_000 0x1a 100_000 false false 0 0
+tight = benchWith 100_000 0x1a 100_000 false none false 0 0
 
 -- ---- files
 unfoldable pub timingFields : ℕ → List Timing → List ℕ
 timingFields t [] = []
 timingFields t (x ∷ xs) = fieldBytes t (bigEndian 4 (x .duration) ++ bigEndian 1 (x .floor)) ++ timingFields (suc t) xs
+
+unfoldable pub startField : Option ℕ → List ℕ
+startField none = []
+startField (some v) = fieldBytes 23 (bigEndian 1 v)
 
 unfoldable pub cardFile : Card → List ℕ
 cardFile card =
@@ -95,6 +101,7 @@ cardFile card =
     fieldBytes 4 (bigEndian 4 (card .trefi)) ++
     timingFields 5 (timings card) ++
     when (card .sleeps) (timingFields 19 (sleepTimings card)) ++
+    startField (card .mr1) ++
     when (card .paired) (fieldBytes 25 (bigEndian 1 (card .gap))) ++
     when (ltb 0 (card .raise)) (fieldBytes 26 (bigEndian 4 (card .raise)))
 
@@ -344,6 +351,67 @@ paired =
     48 ∷ 32 ∷ 78 ∷ 79 ∷ 80 ∷ 32 ∷ 45 ∷ 32 ∷ 45 ∷ 10 ∷ 49 ∷ 32 ∷ 78 ∷ 79 ∷ 80 ∷ 32 ∷ 45 ∷ 32 ∷ 49 ∷ 10 ∷ 50 ∷ 32 ∷ 65 ∷ 67 ∷ 84 ∷ 32 ∷ 53 ∷ 32 ∷ 49 ∷ 10 ∷ 51 ∷ 32 ∷ 82 ∷ 69 ∷ 70 ∷ 80 ∷ 66 ∷ 32 ∷ 48 ∷ 32 ∷ 48 ∷ 10 ∷ 54 ∷ 48 ∷ 32 ∷ 82 ∷ 69 ∷ 70 ∷ 80 ∷ 66 ∷ 32 ∷ 49 ∷ 32 ∷ 48 ∷ 10 ∷ 54 ∷ 49 ∷ 32 ∷ 82 ∷ 69 ∷ 70 ∷ 80 ∷ 66 ∷ 32 ∷ 48 ∷ 32 ∷ 49 ∷ 10 ∷
     97 ∷ 99 ∷ 99 ∷ 101 ∷ 112 ∷ 116 ∷ 101 ∷ 100 ∷ 32 ∷ 52 ∷ 32 ∷ 48 ∷ 32 ∷ 48 ∷ 32 ∷ 48 ∷ 10 ∷ []
     ) ∷ []
+
+-- ---- nWR (document 02, Two)
+-- with these starting MR2 and MR1
+unfoldable pub starts : (mr2 mr1 : ℕ) → Card
+starts v m = benchWith 1250 v 3_900_000 false (some m) false 0 0
+
+-- a write with AP at 30, and an ACT of its bank: WL + 5 + n(tRPpb) is 26
+unfoldable pub again : ℕ → List Entry
+again t = act 0 0 at 0 ∷ wr 0 0 true at 30 ∷ act 0 0 at t ∷ []
+
+-- a card on which MRW delays nothing
+unfoldable pub unhurried : (mr2 mr1 : ℕ) → List Entry → ℕ → List ℕ
+unhurried v m es end = take 127 (cardFile (benchAt 1250 v)) ++ timingFields 18 (timing 0 0 ∷ []) ++ startField (some m) ++ entriesFile es ++ endFile end
+
+-- the first entry stands at offset 139; n(tWR) is 12
+unfoldable pub programmed : List Case
+programmed =
+    -- OP4 = 1: 110 is 16, 000 is 10, and 111 is not listed; OP4 = 0: 111 is 9, 001 is 3, and 000 is not listed
+    judges (file (starts 0x1a 0xc3) (again 71) 80) (refused 10 18 159 72) ∷
+    judges (file (starts 0x1a 0xc3) (again 72) 80) (accepts 3 0 (pos 0)) ∷
+    judges (file (starts 0x1a 0x03) (again 65) 80) (refused 10 18 159 66) ∷
+    judges (file (starts 0x1a 0x03) (again 66) 80) (accepts 3 0 (pos 0)) ∷
+    judges (file (starts 0x1a 0xe3) (again 67) 80) (refused 10 18 159 68) ∷
+    judges (file (starts 0x1a 0xe3) (again 68) 80) (accepts 3 0 (pos 0)) ∷
+    judges (file (starts 0x0a 0xe3) (again 64) 80) (refused 10 18 159 65) ∷
+    judges (file (starts 0x0a 0xe3) (again 65) 80) (accepts 3 0 (pos 0)) ∷
+    judges (file (starts 0x0a 0x23) (again 58) 80) (refused 10 18 159 59) ∷
+    judges (file (starts 0x0a 0x23) (again 59) 80) (accepts 3 0 (pos 0)) ∷
+    judges (file (starts 0x0a 0x03) (again 67) 80) (refused 10 18 159 68) ∷
+    -- the other bits of MR1 say nothing
+    judges (file (starts 0x1a 0xdb) (again 71) 80) (refused 10 18 159 72) ∷
+    -- none at first, and then by MA 1; from the next entry on
+    judges (file bench (mrw 1 0xc3 at 0 ∷ act 0 0 at 10 ∷ wr 0 0 true at 40 ∷ act 0 0 at 81 ∷ []) 90) (refused 10 18 165 82) ∷
+    judges (file bench (mrw 1 0xc3 at 0 ∷ act 0 0 at 10 ∷ wr 0 0 true at 40 ∷ act 0 0 at 82 ∷ []) 90) (accepts 4 0 (pos 0)) ∷
+    judges (file bench (mrw 2 0x0a at 0 ∷ act 0 0 at 10 ∷ wr 0 0 true at 40 ∷ act 0 0 at 77 ∷ []) 90) (refused 10 18 165 78) ∷
+    -- as both stood at the write: neither MA 1 nor OP4, written later, moves it
+    judges (unhurried 0x1a 0x23 (take 2 (again 0) ++ (mrw 1 0xc3 at 66 ∷ [])) 80) (refused 10 18 159 67) ∷
+    judges (unhurried 0x1a 0x23 (take 2 (again 0) ++ (mrw 1 0xc3 at 67 ∷ act 0 0 at 68 ∷ [])) 80) (accepts 4 0 (pos 0)) ∷
+    judges (unhurried 0x0a 0xc3 (take 2 (again 0) ++ (mrw 2 0x1a at 64 ∷ act 0 0 at 65 ∷ [])) 80) (accepts 4 0 (pos 0)) ∷
+    judges (unhurried 0x1a 0x23 (mrw 1 0xc3 at 0 ∷ act 0 0 at 1 ∷ wr 0 0 true at 31 ∷ refab at 72 ∷ []) 80) (refused 10 18 169 73) ∷
+    -- REFpb waits for it too
+    judges (file (starts 0x1a 0xc3) (take 2 (again 0) ++ (refpb at 71 ∷ [])) 80) (refused 10 18 159 72) ∷
+    -- rule 17 goes by n(tWR): PRE may have to wait longer than an ACT would, and less
+    judges (file (starts 0x1a 0xc3) (take 2 (again 0) ++ (pre 0 at 52 ∷ [])) 80) (refused 10 17 159 53) ∷
+    judges (file (starts 0x1a 0xc3) (take 2 (again 0) ++ (pre 0 at 53 ∷ [])) 80) (accepts 3 0 (pos 0)) ∷
+    judges (file (starts 0x0a 0x23) (take 2 (again 0) ++ (pre 0 at 52 ∷ [])) 80) (refused 10 17 159 53) ∷
+    -- each of two parts has its own
+    judges (file (pair 2) (mrw 1 0xc3 at₁ 0 ∷ act 0 0 at₀ 1 ∷ act 0 0 at₁ 10 ∷ wr 0 0 true at₀ 40 ∷ wr 0 0 true at₁ 46 ∷ act 0 0 at₀ 77 ∷ []) 90) (refused 10 18 189 78) ∷
+    judges (file (pair 2) (mrw 1 0xc3 at₁ 0 ∷ act 0 0 at₀ 1 ∷ act 0 0 at₁ 10 ∷ wr 0 0 true at₀ 40 ∷ wr 0 0 true at₁ 46 ∷ act 0 0 at₁ 87 ∷ []) 90) (refused 10 18 189 88) ∷
+    judges (file (pair 2) (mrw 1 0xc3 at₁ 0 ∷ act 0 0 at₀ 1 ∷ act 0 0 at₁ 10 ∷ wr 0 0 true at₀ 40 ∷ wr 0 0 true at₁ 46 ∷ act 0 0 at₁ 88 ∷ []) 90) (accepted 6 0 (pos 0 ∷ pos 0 ∷ [])) ∷
+    -- the form: one byte, OP2-0 011; at most once, behind 18 or 22, before 25 and 26 and before the first entry
+    judges (cardFile bench ++ fieldBytes 23 (3 ∷ 3 ∷ []) ++ endFile 20) (refused 3 0 135 0) ∷
+    judges (cardFile bench ++ fieldBytes 23 (0xc2 ∷ []) ++ endFile 20) (refused 4 0 135 0) ∷
+    judges (cardFile bench ++ fieldBytes 23 (0xfb ∷ []) ++ endFile 20) (accepts 0 0 (pos 0)) ∷
+    judges (cardFile (starts 0x1a 3) ++ fieldBytes 23 (3 ∷ []) ++ endFile 20) (refused 2 0 139 0) ∷
+    judges (cardFile (pair 2) ++ fieldBytes 23 (3 ∷ []) ++ endFile 20) (refused 2 0 139 0) ∷
+    judges (cardFile heater ++ fieldBytes 23 (3 ∷ []) ++ endFile 20) (refused 2 0 142 0) ∷
+    judges (cardFile bench ++ entriesFile (nop at 0 ∷ []) ++ fieldBytes 23 (3 ∷ []) ++ endFile 20) (refused 2 0 145 0) ∷
+    judges (take 143 (cardFile sleeper) ++ fieldBytes 23 (3 ∷ []) ++ endFile 20) (refused 2 0 143 0) ∷
+    judges (cardFile sleeper ++ fieldBytes 23 (3 ∷ []) ++ endFile 20) (accepts 0 0 (pos 0)) ∷
+    judges (cardFile (starts 0x1a 3) ++ fieldBytes 25 (2 ∷ []) ++ endFile 20) (accepted 0 0 (pos 0 ∷ pos 0 ∷ [])) ∷ []
 
 -- ---- temperature (document 02, Eleven)
 infix 90 _sets_

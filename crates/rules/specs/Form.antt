@@ -3,11 +3,12 @@
 use Prim.Native.Nat.{ℕ, suc, _+_, _*_}
 use mathlib.Core.Bool.{Bool, false, cond, not, _&&_, _||_}
 use mathlib.Core.List.{List, [], _∷_}
+use mathlib.Core.Option.{Option, none, some}
 use lib.Dec.{leb, ltb, eqb}
 use lib.ListN.{length, take, drop}
 use Rattle.rules.specs.Card.{Timing, Card}
 use Rattle.rules.specs.Registers.{mr2Good}
-use Rattle.rules.specs.Ranges.{periodGood, groupsGood, trefiGood, timingGood, raiseGood}
+use Rattle.rules.specs.Ranges.{periodGood, groupsGood, trefiGood, timingGood, startGood, raiseGood}
 use Rattle.rules.specs.Entries.{Body, pins, mr4, Entry}
 
 -- a field as it stands in the file: a tag byte, the two bytes of its length, the value
@@ -42,7 +43,7 @@ unfoldable pub _upTo_ : ℕ → ℕ → Group
 a upTo b = record { first = a; last = b }
 
 unfoldable pub groups : List Group
-groups = 1 upTo 18 ∷ 19 upTo 22 ∷ 25 upTo 25 ∷ 26 upTo 26 ∷ []
+groups = 1 upTo 18 ∷ 19 upTo 22 ∷ 23 upTo 23 ∷ 25 upTo 25 ∷ 26 upTo 26 ∷ []
 
 -- the tag of the newest field, 0 before the first
 unfoldable pub lastTag : List Field → ℕ
@@ -92,7 +93,7 @@ unfoldable pub lengths : List Listed
 lengths =
     1 of 4 ∷ 2 of 1 ∷ 3 of 2 ∷ 4 of 4 ∷
     5 of 5 ∷ 6 of 5 ∷ 7 of 5 ∷ 8 of 5 ∷ 9 of 5 ∷ 10 of 5 ∷ 11 of 5 ∷ 12 of 5 ∷ 13 of 5 ∷ 14 of 5 ∷ 15 of 5 ∷ 16 of 5 ∷ 17 of 5 ∷ 18 of 5 ∷
-    19 of 5 ∷ 20 of 5 ∷ 21 of 5 ∷ 22 of 5 ∷ 25 of 1 ∷ 26 of 4 ∷
+    19 of 5 ∷ 20 of 5 ∷ 21 of 5 ∷ 22 of 5 ∷ 23 of 1 ∷ 25 of 1 ∷ 26 of 4 ∷
     32 of 7 ∷ 33 of 4 ∷ 34 of 5 ∷ []
 
 unfoldable pub isListed : List Listed → (tag size : ℕ) → Bool
@@ -143,6 +144,10 @@ numberAt t fs = number (valueOf t fs)
 unfoldable pub timingAt : ℕ → List Field → Timing
 timingAt t fs = timingOf (valueOf t fs)
 
+-- where the card has this tag
+unfoldable pub numberIf : ℕ → List Field → Option ℕ
+numberIf t fs = cond (has t fs) (some (numberAt t fs)) none
+
 unfoldable pub cardOf : List Field → Card
 cardOf fs = record {
   period = numberAt 1 fs;
@@ -168,6 +173,7 @@ cardOf fs = record {
   txp = timingAt 20 fs;
   tckesr = timingAt 21 fs;
   txsr = timingAt 22 fs;
+  mr1 = numberIf 23 fs;
   paired = has 25 fs;
   gap = numberAt 25 fs;
   raise = numberAt 26 fs;
@@ -186,8 +192,9 @@ fieldGood fs f =
     (cond (eqb t 2) (mr2Good (numberAt 1 fs) x)
     (cond (eqb t 3) (groupsGood x)
     (cond (eqb t 4) (trefiGood (numberAt 1 fs) x)
+    (cond (eqb t 23) (startGood x)
     (cond (eqb t 25) (gapGood fs x)
-    (cond (eqb t 26) (raiseGood x) (timingGood (timingOf (f .value))))))))
+    (cond (eqb t 26) (raiseGood x) (timingGood (timingOf (f .value)))))))))
 
 -- an entry: stamp (4 bytes), pins (3) or the value of MR4 (1); the end: E
 unfoldable pub bodyOf : (tag : ℕ) → ℕ → Body

@@ -58,6 +58,7 @@ hotCard card = record {
   txp = card .txp;
   tckesr = card .tckesr;
   txsr = card .txsr;
+  mr1 = card .mr1;
   paired = card .paired;
   gap = card .gap;
   raise = card .raise;

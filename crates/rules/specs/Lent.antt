@@ -13,10 +13,10 @@ use Rattle.rules.specs.Lists.{all, isOneOf}
 use Rattle.rules.specs.Card.{Card}
 use Rattle.rules.specs.Heat.{startMR4, intervalAt, delaysAt}
 use Rattle.rules.specs.Commands.{Command, banks}
-use Rattle.rules.specs.Registers.{mr2Good}
+use Rattle.rules.specs.Registers.{mr2Good, Modes}
 use Rattle.rules.specs.Ranges.{cardGood}
 use Rattle.rules.specs.Whose.{isOf, other, parts}
-use Rattle.rules.specs.Past.{Past, ofPart, lastCycle, registerAfter, mr2At, mr4At, levelAt, counterAfter, counterAt, openAfter, isOpen, isCounted}
+use Rattle.rules.specs.Past.{Past, ofPart, lastCycle, modesAfter, modesAt, mr4At, levelAt, counterAfter, counterAt, openAfter, isOpen, isCounted}
 use Rattle.rules.specs.Folds.{Found, firstOf}
 use Rattle.rules.specs.Delays.{
   Ask,
@@ -42,6 +42,7 @@ use Rattle.rules.specs.Delays.{
   Question,
   Meaning,
   means,
+  notedOf,
   Answers,
   lookBoth,
 }
@@ -80,11 +81,11 @@ startPace card = record { next = intervalAt card startMR4; mr4 = startMR4 }
 
 -- for each question, the latest entries that it asks about, the newest first and as many as it passes over and one more
 abbrev pub History : Type 0
-History = Question → List (Found ℕ)
+History = Question → List (Found Modes)
 
 -- what is lent of one part; it knows nothing of the other
 pub record Share : Type 0 where
-  pub mr2 : ℕ
+  pub modes : Modes
   pub open? : ℕ → Bool
   pub counter : ℕ
   pub history : History
@@ -137,12 +138,12 @@ asks =
     lastSelfExit ∷ []
 
 -- every entry that the record remembers is so
-unfoldable pub allStored : (Ask → Found ℕ → Bool) → History → Bool
+unfoldable pub allStored : (Ask → Found Modes → Bool) → History → Bool
 allStored p h = all (λ a. all (λ b. all (p a) (h (record { ask = a; bank = b }))) banks) asks
 
 -- an MR2 value that MRW may not write: the present one, or one that stood at an earlier entry
 unfoldable pub mr2sGood : Card → Share → Bool
-mr2sGood card s = mr2Good (card .period) (s .mr2) && allStored (λ a f. cond (means a .lags) (mr2Good (card .period) (f .noted)) true) (s .history)
+mr2sGood card s = mr2Good (card .period) (s .modes .mr2) && allStored (λ a f. cond (means a .lags) (mr2Good (card .period) (f .noted .mr2)) true) (s .history)
 
 -- a ledger outside -8..8
 unfoldable pub owingGood : ℤ → Bool
@@ -299,26 +300,26 @@ stepRefusal l e =
     )
 
 -- what an entry leaves in a history: it pushes those before it back; one that is not of the kind asked for supersedes them
-unfoldable pub remembered : Meaning → Command → Found ℕ → List (Found ℕ) → List (Found ℕ)
+unfoldable pub remembered : Meaning → Command → Found Modes → List (Found Modes) → List (Found Modes)
 remembered m c f h = cond (m .only c) (f ∷ take (m .passed) h) []
 
-unfoldable pub historyAfter : Command → Move → (n t mr2 : ℕ) → History → History
-historyAfter c v n t mr2 h q =
+unfoldable pub historyAfter : Command → Move → (n t : ℕ) → Modes → History → History
+historyAfter c v n t modes h q =
     let m = means (q .ask) in
-    cond (m .among (q .bank) c v n) (remembered m c (record { stamp = t; noted = cond (m .lags) mr2 0 }) (h q)) (h q)
+    cond (m .among (q .bank) c v n) (remembered m c (record { stamp = t; noted = notedOf m modes }) (h q)) (h q)
 
 -- a part's share after an entry of its own with this command and move at cycle t, its ledger then being g
 unfoldable pub shareAfter : Command → Move → (t : ℕ) → Ledger → Share → Share
 shareAfter c v t g s = record {
-  mr2 = registerAfter 2 c (s .mr2);
+  modes = modesAfter c (s .modes);
   open? = λ b. openAfter b c (s .open? b);
   counter = counterAfter c v (s .counter);
-  history = historyAfter c v (s .counter) t (s .mr2) (s .history);
+  history = historyAfter c v (s .counter) t (s .modes) (s .history);
   ledger = g;
 }
 
 unfoldable pub withLedger : Ledger → Share → Share
-withLedger g s = record { mr2 = s .mr2; open? = s .open?; counter = s .counter; history = s .history; ledger = g }
+withLedger g s = record { modes = s .modes; open? = s .open?; counter = s .counter; history = s .history; ledger = g }
 
 -- after an entry of whichever part: what is not its own only moves on
 unfoldable pub shareWith : Lent → Entry → ℕ → Share
@@ -367,7 +368,7 @@ lastOf (e ∷ t) = some (e .stamp)
 
 unfoldable pub historyOf : Card → Past → History
 historyOf card [] q = []
-historyOf card (e ∷ t) q = historyAfter (e .cmd) (e .move) (counterAt t) (e .stamp) (mr2At card t) (historyOf card t) q
+historyOf card (e ∷ t) q = historyAfter (e .cmd) (e .move) (counterAt t) (e .stamp) (modesAt card t) (historyOf card t) q
 
 -- the ledger that stands for a part's own entries as after cycle t
 abbrev pub ledgerAt : Card → Past → ℕ → Ledger
@@ -385,7 +386,7 @@ paceOf card own = record { next = beatAt card own .next; mr4 = mr4At own }
 
 unfoldable pub shareOf : Card → Past → ℕ → Share
 shareOf card own t = record {
-  mr2 = mr2At card own;
+  modes = modesAt card own;
   open? = λ b. isOpen b own;
   counter = counterAt own;
   history = historyOf card own;
@@ -398,7 +399,7 @@ standsAt past c p = max (lastCycle past) (c p)
 
 unfoldable pub freshShare : Card → Share
 freshShare card = record {
-  mr2 = card .mr2;
+  modes = record { mr2 = card .mr2; mr1 = card .mr1 };
   open? = λ b. false;
   counter = 0;
   history = λ q. [];

@@ -58,6 +58,9 @@ fn called(rec: Record, case: u32, part: u32, what: u32, cycle: u32) -> Record {
     if places::PERIOD <= what {
         return places::put(rec, part, what, cycle);
     }
+    if what == table::FRESH {
+        return bank::fresh_record(rec.card);
+    }
     lines::of_case(case);
     if table::MR4 <= what {
         return senses(rec, cycle, what - table::MR4);

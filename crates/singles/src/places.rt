@@ -11,6 +11,7 @@ use bank::Once;
 use bank::Record;
 use bank::Share;
 use card::Card;
+use card::Modes;
 use ledger::Ledger;
 use ledger::Pace;
 use pins::Level;
@@ -36,6 +37,8 @@ pub const TFAW: u32 = 0x3000009;
 
 pub const TRTP: u32 = 0x300000a;
 
+pub const TWR: u32 = 0x300000b;
+
 pub const TWTR: u32 = 0x300000c;
 
 pub const TDQSCK: u32 = 0x300000d;
@@ -55,6 +58,8 @@ pub const TRPPB_FLOOR: u32 = 0x3000017;
 pub const TRAS_FLOOR: u32 = 0x3000019;
 
 pub const TRTP_FLOOR: u32 = 0x300001c;
+
+pub const TWR_FLOOR: u32 = 0x300001d;
 
 pub const TMRR_FLOOR: u32 = 0x3000022;
 
@@ -132,13 +137,13 @@ pub const AT_WR0: u32 = 0x3000046;
 pub const AT_WRA0: u32 = 0x3000047;
 
 // MR2 values that are remembered.
-pub const NOTED_WR: u32 = 0x3000048;
+pub const NOTED_MR2_WR: u32 = 0x3000048;
 
-pub const NOTED_TURN: u32 = 0x3000049;
+pub const NOTED_MR2_TURN: u32 = 0x3000049;
 
-pub const NOTED_WR0: u32 = 0x300004a;
+pub const NOTED_MR2_WR0: u32 = 0x300004a;
 
-pub const NOTED_WRA0: u32 = 0x300004b;
+pub const NOTED_MR2_WRA0: u32 = 0x300004b;
 
 // Of the temperature: what the hottest code adds, the two halves of the next due, and MR4.
 pub const RAISE: u32 = 0x300004c;
@@ -149,8 +154,38 @@ pub const NEXT_LOW: u32 = 0x300004e;
 
 pub const SENSED_MR4: u32 = 0x300004f;
 
+// MR1: the card's, the record's, and those that are remembered. A value above 255 is none; its last byte stands there all the same.
+pub const STARTING_MR1: u32 = 0x3000050;
+
+pub const MR1: u32 = 0x3000051;
+
+pub const NOTED_MR1_WR: u32 = 0x3000052;
+
+pub const NOTED_MR1_TURN: u32 = 0x3000053;
+
+pub const NOTED_MR1_WR0: u32 = 0x3000054;
+
+pub const NOTED_MR1_WRA0: u32 = 0x3000055;
+
 fn byte(value: u32) -> u8 {
     (value % 256) as u8
+}
+
+fn is_byte(value: u32) -> bool {
+    value < 256
+}
+
+fn with_mr2(modes: Modes, value: u32) -> Modes {
+    let mut next = modes;
+    next.mr2 = byte(value);
+    next
+}
+
+fn with_mr1(modes: Modes, value: u32) -> Modes {
+    let mut next = modes;
+    next.programmed = is_byte(value);
+    next.mr1 = byte(value);
+    next
 }
 
 fn once(seen: bool, value: u32) -> Once {
@@ -171,9 +206,15 @@ fn noted_at(noted: Noted, value: u32) -> Noted {
     next
 }
 
-fn noted_as(noted: Noted, value: u32) -> Noted {
+fn noted_mr2(noted: Noted, value: u32) -> Noted {
     let mut next = noted;
-    next.mr2 = byte(value);
+    next.modes = with_mr2(noted.modes, value);
+    next
+}
+
+fn noted_mr1(noted: Noted, value: u32) -> Noted {
+    let mut next = noted;
+    next.modes = with_mr1(noted.modes, value);
     next
 }
 
@@ -186,13 +227,22 @@ fn first_at(each: Each, value: u32) -> Each {
 
 fn first_noted_at(each: NotedEach, value: u32) -> NotedEach {
     let mut next = each;
+    next.seen[0] = true;
     next.at[0] = value;
     next
 }
 
-fn first_noted_as(each: NotedEach, value: u32) -> NotedEach {
+fn first_noted_mr2(each: NotedEach, value: u32) -> NotedEach {
+    let modes = each.modes[0];
     let mut next = each;
-    next.mr2[0] = byte(value);
+    next.modes[0] = with_mr2(modes, value);
+    next
+}
+
+fn first_noted_mr1(each: NotedEach, value: u32) -> NotedEach {
+    let modes = each.modes[0];
+    let mut next = each;
+    next.modes[0] = with_mr1(modes, value);
     next
 }
 
@@ -224,6 +274,10 @@ fn into_card(card: Card, place: u32, value: u32) -> Card {
         PAIRED => next.paired = value == 1,
         GAP => next.gap = byte(value),
         RAISE => next.raise = value,
+        STARTING_MR1 => {
+            next.programmed = is_byte(value);
+            next.mr1 = byte(value);
+        }
         _ => {}
     }
     next
@@ -291,8 +345,10 @@ fn into_bus(bus: Bus, place: u32, value: u32) -> Bus {
         AT_RD => next.rd = seen_at(value),
         AT_WR => next.wr = noted_at(bus.wr, value),
         AT_TURN => next.turn = noted_at(bus.turn, value),
-        NOTED_WR => next.wr = noted_as(bus.wr, value),
-        NOTED_TURN => next.turn = noted_as(bus.turn, value),
+        NOTED_MR2_WR => next.wr = noted_mr2(bus.wr, value),
+        NOTED_MR2_TURN => next.turn = noted_mr2(bus.turn, value),
+        NOTED_MR1_WR => next.wr = noted_mr1(bus.wr, value),
+        NOTED_MR1_TURN => next.turn = noted_mr1(bus.turn, value),
         _ => {}
     }
     next
@@ -321,8 +377,10 @@ fn into_banks(banks: Banks, place: u32, value: u32) -> Banks {
         AT_RDA0 => next.rda = first_at(banks.rda, value),
         AT_WR0 => next.wr = first_noted_at(banks.wr, value),
         AT_WRA0 => next.wra = first_noted_at(banks.wra, value),
-        NOTED_WR0 => next.wr = first_noted_as(banks.wr, value),
-        NOTED_WRA0 => next.wra = first_noted_as(banks.wra, value),
+        NOTED_MR2_WR0 => next.wr = first_noted_mr2(banks.wr, value),
+        NOTED_MR2_WRA0 => next.wra = first_noted_mr2(banks.wra, value),
+        NOTED_MR1_WR0 => next.wr = first_noted_mr1(banks.wr, value),
+        NOTED_MR1_WRA0 => next.wra = first_noted_mr1(banks.wra, value),
         _ => {}
     }
     next
@@ -331,7 +389,8 @@ fn into_banks(banks: Banks, place: u32, value: u32) -> Banks {
 fn into_numbers(share: Share, place: u32, value: u32) -> Share {
     let mut next = share;
     match place {
-        MR2 => next.mr2 = byte(value),
+        MR2 => next.modes = with_mr2(share.modes, value),
+        MR1 => next.modes = with_mr1(share.modes, value),
         COUNTER => next.counter = byte(value),
         _ => {}
     }

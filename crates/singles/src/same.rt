@@ -9,6 +9,7 @@ use bank::Noted;
 use bank::NotedEach;
 use bank::Once;
 use bank::Share;
+use card::Modes;
 use ledger::Ledger;
 use pins::Level;
 
@@ -34,10 +35,14 @@ fn stamps(a: [u32; 8], b: [u32; 8]) -> bool {
     true
 }
 
-fn values(a: [u8; 8], b: [u8; 8]) -> bool {
+fn modes(a: Modes, b: Modes) -> bool {
+    (a.mr2 == b.mr2) & (a.programmed == b.programmed) & (a.mr1 == b.mr1)
+}
+
+fn each_modes(a: [Modes; 8], b: [Modes; 8]) -> bool {
     let mut i: usize = 0;
     while i < 8 {
-        if a[i] != b[i] {
+        if !modes(a[i], b[i]) {
             return false;
         }
         i += 1;
@@ -50,7 +55,7 @@ fn once(a: Once, b: Once) -> bool {
 }
 
 fn noted(a: Noted, b: Noted) -> bool {
-    (a.seen == b.seen) & (a.at == b.at) & (a.mr2 == b.mr2)
+    (a.seen == b.seen) & (a.at == b.at) & modes(a.modes, b.modes)
 }
 
 fn each(a: Each, b: Each) -> bool {
@@ -66,9 +71,9 @@ fn noted_each(a: NotedEach, b: NotedEach) -> bool {
     let seen_too = b.seen;
     let at = a.at;
     let at_too = b.at;
-    let mr2 = a.mr2;
-    let mr2_too = b.mr2;
-    flags(seen, seen_too) & stamps(at, at_too) & values(mr2, mr2_too)
+    let noted = a.modes;
+    let noted_too = b.modes;
+    flags(seen, seen_too) & stamps(at, at_too) & each_modes(noted, noted_too)
 }
 
 fn four(a: Four, b: Four) -> bool {
@@ -128,7 +133,7 @@ pub fn ledgers(a: Ledger, b: Ledger) -> bool {
 }
 
 pub fn shares(a: Share, b: Share) -> bool {
-    (a.mr2 == b.mr2)
+    modes(a.modes, b.modes)
         & (a.counter == b.counter)
         & latest(a.latest, b.latest)
         & moves(a.moves, b.moves)

@@ -8,6 +8,7 @@ use Rattle.rules.specs.Commands.{Command, ACT, PREA, is, bankOf}
 use Rattle.rules.specs.Whose.{Whose, isOf}
 use Rattle.rules.specs.Levels.{Move}
 use Rattle.card.specs.declared.Card.{Card}
+use Rattle.card.specs.declared.Modes.{Modes}
 use Rattle.ledger.specs.declared.Ledger.{Ledger}
 use Rattle.ledger.specs.declared.Pace.{Pace}
 use Rattle.bank.specs.declared.Each.{Each}
@@ -15,11 +16,11 @@ use Rattle.bank.specs.declared.NotedEach.{NotedEach}
 use Rattle.bank.specs.declared.Share.{Share}
 use Rattle.bank.specs.declared.Ledgers.{Ledgers}
 use Rattle.bank.specs.declared.Record.{Record}
-use Rattle.bank.specs.Values.{neverEach, neverNotedEach, freshShare, freshOf}
+use Rattle.bank.specs.Values.{neverEach, neverNotedEach, freshShare, startOf, freshOf}
 use Rattle.bank.specs.After.{eachIf, notedEachIf, shuts, openedAfter, stampedAfter, banksAfter, shareAfter, withLedger, shareTaken, recordAfter}
 use Rattle.bank.proofs.Sizes.{EachWhole, NotedWhole, ShareWhole, Whole}
 
-fresh-share : (m : ℕ) → ShareWhole (freshShare m)
+fresh-share : (m : Modes) → ShareWhole (freshShare m)
 unfolding freshShare neverEach neverNotedEach
 fresh-share m = record {
   opened = refl;
@@ -36,23 +37,23 @@ fresh-share m = record {
     each = unfold neverEach in record { seen = refl; at = refl }
 
     noted : NotedWhole neverNotedEach
-    noted = unfold neverNotedEach in record { seen = refl; at = refl; mr2 = refl }
+    noted = unfold neverNotedEach in record { seen = refl; at = refl; modes = refl }
 
 pub fresh-whole : (card : Card) → Whole (freshOf card)
 unfolding freshOf
-fresh-whole card = record { first = fresh-share (card .mr2); second = fresh-share (card .mr2) }
+fresh-whole card = record { first = fresh-share (startOf card); second = fresh-share (startOf card) }
 
 each-kept : (now : Bool) (k t : ℕ) (x : Each) → EachWhole x → EachWhole (eachIf now k t x)
 unfolding eachIf
 each-kept true k t x w = record { seen = length-set (x .seen) k true ∙ w .seen; at = length-set (x .at) k t ∙ w .at }
 each-kept false k t x w = w
 
-noted-kept : (now : Bool) (k t m : ℕ) (x : NotedEach) → NotedWhole x → NotedWhole (notedEachIf now k t m x)
+noted-kept : (now : Bool) (k t : ℕ) (m : Modes) (x : NotedEach) → NotedWhole x → NotedWhole (notedEachIf now k t m x)
 unfolding notedEachIf
 noted-kept true k t m x w = record {
   seen = length-set (x .seen) k true ∙ w .seen;
   at = length-set (x .at) k t ∙ w .at;
-  mr2 = length-set (x .mr2) k m ∙ w .mr2;
+  modes = length-set (x .modes) k m ∙ w .modes;
 }
 noted-kept false k t m x w = w
 

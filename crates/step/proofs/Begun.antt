@@ -83,7 +83,7 @@ module _ (d : Delays) (rec : Single) (bs : List ℕ) where
         last = l i;
         pace = rec .pace;
         share = record {
-          mr2 = rec .share .mr2;
+          modes = rec .share .modes;
           counter = rec .share .counter;
           latest = rec .share .latest;
           moves = rec .share .moves;

@@ -5,7 +5,7 @@ use mathlib.Core.Bool.{Bool, true, false, cond}
 use lib.ListN.{set}
 use Rattle.rules.specs.Commands as rules
 use Rattle.rules.specs.Commands.{NOP, code, bare, carries, kindOf, bankOf, apOf, is}
-use Rattle.rules.specs.Past.{registerAfter, bankAt, isCounted}
+use Rattle.rules.specs.Past.{writesMA, registerAfter, mr2After, bankAt, isCounted}
 use Rattle.rules.specs.Levels.{Level, awake, stays, isFall, risesFrom, levelAfter, plain}
 use Rattle.rules.specs.Account.{Beat}
 use Rattle.rules.specs.Pins.{Decoded, good, wrongBits, reserved, decode}
@@ -13,12 +13,13 @@ use Rattle.rules.specs.Entries.{entry, commandOf, recordedAs, moveOf, mr4Of}
 use Rattle.rules.specs.Lent as lent
 use Rattle.rules.specs.Lent.{isThere, effectOf, ledgerTo, refreshedAt, sensedAt, atLevel, entered}
 use Rattle.rules.proofs.Ledgers.{moved-twice}
+use Rattle.card.specs.declared.Modes.{Modes}
 use Rattle.pins.specs.Values.{levelOf}
 use Rattle.pins.specs.Places.{bankOn, apOn}
 use Rattle.ledger.specs.Values.{ledgerOf, levelIn, codeOf}
 use Rattle.ledger.specs.declared.Ledger.{Ledger}
 use Rattle.pins.specs.Counter.{counterOn}
-use Rattle.bank.specs.After.{onceAt, onceIf, notedAt, notedIf, putEach, eachIf, putNoted, notedEachIf, pushedOn, fourAfter, latestAfter, movesAfter, busAfter, shuts, openedAfter, stampedAfter, banksAfter, shareAfter}
+use Rattle.bank.specs.After.{modesAfter, onceAt, onceIf, notedAt, notedIf, putEach, eachIf, putNoted, notedEachIf, pushedOn, fourAfter, latestAfter, movesAfter, busAfter, shuts, openedAfter, stampedAfter, banksAfter, shareAfter}
 use Rattle.bank.specs.declared.Banks.{Banks}
 use Rattle.bank.specs.declared.Bus.{Bus}
 use Rattle.bank.specs.declared.Four.{Four}
@@ -32,7 +33,7 @@ use Rattle.step.proofs.Levels.{Names, named-so, awake-hot}
 use Rattle.step.proofs.Standing.{Stands, moved-back}
 
 -- the parts after an entry of this kind to bank b
-abbrev pub banksThen : Hot → (b : ℕ) → (ap : Bool) → (t m : ℕ) → Banks → Banks
+abbrev pub banksThen : Hot → (b : ℕ) → (ap : Bool) → (t : ℕ) → Modes → Banks → Banks
 banksThen Nop b ap t m x = x
 banksThen Act b ap t m x = record {
   opened = set (x .opened) b true;
@@ -96,7 +97,7 @@ banksThen Pre b ap t m x = record {
 }
 banksThen Cold b ap t m x = x
 
-pub refpb-kept : (h : Hot) (b : ℕ) (ap : Bool) (t m : ℕ) (x : Banks) → banksThen h b ap t m x .refpb ≡ x .refpb
+pub refpb-kept : (h : Hot) (b : ℕ) (ap : Bool) (t : ℕ) (m : Modes) (x : Banks) → banksThen h b ap t m x .refpb ≡ x .refpb
 refpb-kept Nop b ap t m x = refl
 refpb-kept Act b ap t m x = refl
 refpb-kept Rd b true t m x = refl
@@ -106,7 +107,7 @@ refpb-kept Wr b false t m x = refl
 refpb-kept Pre b ap t m x = refl
 refpb-kept Cold b ap t m x = refl
 
-abbrev pub busThen : Hot → (t m : ℕ) → Bus → Bus
+abbrev pub busThen : Hot → (t : ℕ) → Modes → Bus → Bus
 busThen Nop t m x = x
 busThen Act t m x = x
 busThen Rd t m x = record { rd = onceAt t; wr = x .wr; turn = notedAt t m }
@@ -137,13 +138,13 @@ module _ (rec : Single) (banks : Banks) (bus : Bus) (four : Four) (u t p : ℕ) 
     last = onceAt t;
     pace = rec .pace;
     share = record {
-      mr2 = rec .share .mr2;
+      modes = rec .share .modes;
       counter = rec .share .counter;
       latest = rec .share .latest;
       moves = rec .share .moves;
-      bus = busThen h t (rec .share .mr2) bus;
+      bus = busThen h t (rec .share .modes) bus;
       four = fourThen h t four;
-      banks = banksThen h (bankOn p) (apOn p) t (rec .share .mr2) banks;
+      banks = banksThen h (bankOn p) (apOn p) t (rec .share .modes) banks;
       ledger = g;
     };
   }
@@ -152,7 +153,7 @@ module _ (rec : Single) (banks : Banks) (bus : Bus) (four : Four) (u t p : ℕ) 
   NotCold h = h ≡ Cold → ⊥
 
   after-so : (x : Decoded) → NotCold (hotOf x) → Names p x → (g : Ledger) → shareAfter (now .share) (commandOf x) stays t g ≡ then (hotOf x) g .share
-  unfolding hotOf Names commandOf shareAfter registerAfter counterOn risesFrom latestAfter movesAfter isFall busAfter fourAfter banksAfter stampedAfter openedAfter shuts onceIf notedIf eachIf notedEachIf is code kindOf carries bare bankOf apOf bankAt
+  unfolding hotOf Names commandOf shareAfter modesAfter mr2After registerAfter writesMA counterOn risesFrom latestAfter movesAfter isFall busAfter fourAfter banksAfter stampedAfter openedAfter shuts onceIf notedIf eachIf notedEachIf is code kindOf carries bare bankOf apOf bankAt
   after-so (good rules.nop) h n g = refl
   after-so (good (rules.mrw ma op)) h n g = absurd (h refl)
   after-so (good (rules.mrr ma)) h n g = absurd (h refl)
@@ -198,8 +199,8 @@ module _ (rec : Single) (banks : Banks) (bus : Bus) (four : Four) (u t p : ℕ) 
     unfolding readBy readAlone
     reads h = rw wakes-now (awake-hot (rec .card .sleeps) p h)
 
-    pub taken-so : NotCold (hotOf (decode p)) → (singleWith now (entry t p) ≡ nowOf rec (banksThen (hotOf (decode p)) (bankOn p) (apOn p) t (rec .share .mr2) banks)
-        (busThen (hotOf (decode p)) t (rec .share .mr2) bus) (fourThen (hotOf (decode p)) t four) t) × (cond (is NOP (recordedAs (readBy now (entry t p)))) 0 1 ≡ hotCount (hotOf (decode p)))
+    pub taken-so : NotCold (hotOf (decode p)) → (singleWith now (entry t p) ≡ nowOf rec (banksThen (hotOf (decode p)) (bankOn p) (apOn p) t (rec .share .modes) banks)
+        (busThen (hotOf (decode p)) t (rec .share .modes) bus) (fourThen (hotOf (decode p)) t four) t) × (cond (is NOP (recordedAs (readBy now (entry t p)))) 0 1 ≡ hotCount (hotOf (decode p)))
     unfolding singleWith effectBy effectOf recordedAs moveOf mr4Of isThere levelAfter ledgerBy ledgerOf entered refreshedAt sensedAt atLevel ledgerTo
     taken-so h =
         let q = plain-so (decode p) h in (

@@ -10,12 +10,12 @@ use Rattle.rules.specs.Commands.{code, bare, carries, kindOf, bankOf, is, banks
 use Rattle.rules.specs.Past.{bankAt}
 use Rattle.rules.specs.Levels.{stays, isFall, isRise, risesFrom}
 use Rattle.rules.specs.Folds.{permitted, permittedBy, bound}
-use Rattle.rules.specs.Delays.{mine, turned, Lookup, lookBoth, across, lastREFpb-to, lastACT-to, means, latestOf, laggingOf, fourthOf, latestIf, latestMove, idleUse, precharged, without, from, lagging, rule, delayRules}
+use Rattle.rules.specs.Delays.{mine, turned, Lookup, lookBoth, across, lastREFpb-to, lastACT-to, means, latestOf, laggingOf, fourthOf, latestIf, latestMove, idleUse, precharged, without, from, lagging, recovering, unnoted, rule, delayRules}
 use Rattle.rules.specs.Lent.{lookIn}
 use Rattle.rules.proofs.Tests.{_&_}
-use Rattle.card.specs.Values.{clocksOf}
+use Rattle.card.specs.Values.{modesOf, clocksOf}
 use Rattle.card.specs.declared.Delays.{Delays}
-use Rattle.bank.specs.Values.{once, noted, each, notedEach, preOf, preaOf, asked, outweighed, shareOf}
+use Rattle.bank.specs.Values.{once, noted, each, noModes, notedEach, preOf, preaOf, asked, outweighed, shareOf}
 use Rattle.bounds.proofs.Spanned.{joined}
 use Rattle.step.specs.declared.single.Single.{Single}
 use Rattle.step.specs.Single.{viewBy}
@@ -40,13 +40,13 @@ module _ (d : Delays) (rec : Single) (b t : ℕ) where
   whole-parts h = (omega arith, omega arith, omega arith, omega arith, omega arith)
 
   pub nop-quiet : Quiet rules.nop
-  unfolding Every delayRules rule bound from lagging across turned when is code kindOf carries bare idleUse precharged isFall isRise risesFrom permittedBy
+  unfolding Every delayRules rule bound from lagging recovering across turned when is code kindOf carries bare idleUse precharged isFall isRise risesFrom permittedBy
   nop-quiet =
       silent & silent & silent & silent & silent & silent & silent & silent & silent & silent & silent &
       silent & silent & silent & silent & silent & silent & silent & silent & silent & silent & silent & silent & silent & silent & tt
 
   pub rd-quiet : (k : ℕ) (a : Bool) → rdCycle (laneOf rec b) (waitsOf d rec) d (rec .share .bus) ≤ t → Quiet (rules.rd b k a)
-  unfolding Every delayRules rule bound from lagging across turned when is code kindOf carries bare bankAt bankOf idleUse precharged isFall isRise risesFrom permittedBy viewBy lookBoth lookIn shareOf asked once noted each means latestOf latestMove laggingOf clocksOf
+  unfolding Every delayRules rule bound from lagging recovering across turned when is code kindOf carries bare bankAt bankOf idleUse precharged isFall isRise risesFrom permittedBy viewBy lookBoth lookIn shareOf asked once noted each means latestOf latestMove laggingOf clocksOf modesOf
   rd-quiet k a h =
       let p = four-parts _ _ _ _ t h in
       let w = whole-parts (p .0) in
@@ -54,17 +54,17 @@ module _ (d : Delays) (rec : Single) (b t : ℕ) where
       alone (once-within _ t (rec .share .latest .mrr) (w .1)) &
       alone (once-within _ t (rec .share .latest .refab) (w .2)) &
       silent & silent & silent &
-      alone (kept-within _ t (getD (rec .share .banks .act .seen) b false) (getD (rec .share .banks .act .at) b 0) 0 (p .1)) &
+      alone (kept-within _ t (getD (rec .share .banks .act .seen) b false) (getD (rec .share .banks .act .at) b 0) unnoted (p .1)) &
       silent & silent & silent & silent &
       alone (once-within _ t (rec .share .bus .rd) (p .2)) &
       silent &
-      alone (kept-within _ t (rec .share .bus .wr .seen) (rec .share .bus .wr .at) (rec .share .bus .wr .mr2) (after-wr _ _ (rec .share .bus .wr .mr2) (rec .share .mr2) t (p .3))) &
+      alone (kept-within _ t (rec .share .bus .wr .seen) (rec .share .bus .wr .at) (modesOf (rec .share .bus .wr .modes)) (after-wr _ _ (rec .share .bus .wr .modes .mr2) (rec .share .modes .mr2) t (p .3))) &
       silent & silent & silent & silent &
       silent & alone (once-within _ t (rec .share .moves .«power_exit») (w .3)) & silent & alone (once-within _ t (rec .share .moves .«self_exit») (w .4)) &
       alone (none-within _ t) & silent & alone (none-within _ t) & tt
 
   pub wr-quiet : (k : ℕ) (a : Bool) → wrCycle (laneOf rec b) (waitsOf d rec) d (rec .share .bus) ≤ t → Quiet (rules.wr b k a)
-  unfolding Every delayRules rule bound from lagging across turned when is code kindOf carries bare bankAt bankOf idleUse precharged isFall isRise risesFrom permittedBy viewBy lookBoth lookIn shareOf asked once noted each means latestOf latestMove laggingOf clocksOf
+  unfolding Every delayRules rule bound from lagging recovering across turned when is code kindOf carries bare bankAt bankOf idleUse precharged isFall isRise risesFrom permittedBy viewBy lookBoth lookIn shareOf asked once noted each means latestOf latestMove laggingOf clocksOf modesOf
   wr-quiet k a h =
       let p = four-parts _ _ _ _ t h in
       let w = whole-parts (p .0) in
@@ -72,16 +72,16 @@ module _ (d : Delays) (rec : Single) (b t : ℕ) where
       alone (once-within _ t (rec .share .latest .mrr) (w .1)) &
       alone (once-within _ t (rec .share .latest .refab) (w .2)) &
       silent & silent & silent &
-      alone (kept-within _ t (getD (rec .share .banks .act .seen) b false) (getD (rec .share .banks .act .at) b 0) 0 (p .1)) &
+      alone (kept-within _ t (getD (rec .share .banks .act .seen) b false) (getD (rec .share .banks .act .at) b 0) unnoted (p .1)) &
       silent & silent & silent & silent &
-      alone (kept-within _ t (rec .share .bus .wr .seen) (rec .share .bus .wr .at) (rec .share .bus .wr .mr2) (p .2)) &
-      alone (kept-within _ t (rec .share .bus .turn .seen) (rec .share .bus .turn .at) (rec .share .bus .turn .mr2) (after-turn _ _ (rec .share .bus .turn .mr2) (rec .share .mr2) t (p .3))) &
+      alone (kept-within _ t (rec .share .bus .wr .seen) (rec .share .bus .wr .at) (modesOf (rec .share .bus .wr .modes)) (p .2)) &
+      alone (kept-within _ t (rec .share .bus .turn .seen) (rec .share .bus .turn .at) (modesOf (rec .share .bus .turn .modes)) (after-turn _ _ (rec .share .bus .turn .modes .mr2) (rec .share .modes .mr2) t (p .3))) &
       silent & silent & silent & silent & silent &
       silent & alone (once-within _ t (rec .share .moves .«power_exit») (w .3)) & silent & alone (once-within _ t (rec .share .moves .«self_exit») (w .4)) &
       alone (none-within _ t) & alone (none-within _ t) & silent & tt
 
   pub pre-quiet : preCycle (laneOf rec b) (waitsOf d rec) d ≤ t → Quiet (rules.pre b)
-  unfolding Every delayRules rule bound from lagging across turned when is code kindOf carries bare bankAt bankOf idleUse precharged isFall isRise risesFrom permittedBy viewBy lookBoth lookIn shareOf asked once each notedEach means latestOf latestMove laggingOf clocksOf
+  unfolding Every delayRules rule bound from lagging recovering across turned when is code kindOf carries bare bankAt bankOf idleUse precharged isFall isRise risesFrom permittedBy viewBy lookBoth lookIn shareOf asked once each notedEach means latestOf latestMove laggingOf clocksOf modesOf
   pre-quiet h =
       let o = two _ _ t h in
       let p = four-parts _ _ _ _ t (o .1) in
@@ -89,21 +89,21 @@ module _ (d : Delays) (rec : Single) (b t : ℕ) where
       alone (once-within _ t (rec .share .latest .mrw) (w .0)) &
       alone (once-within _ t (rec .share .latest .mrr) (w .1)) &
       alone (once-within _ t (rec .share .latest .refab) (w .2)) &
-      alone (kept-within _ t (getD (rec .share .banks .refpb .seen) b false) (getD (rec .share .banks .refpb .at) b 0) 0 (p .0)) &
+      alone (kept-within _ t (getD (rec .share .banks .refpb .seen) b false) (getD (rec .share .banks .refpb .at) b 0) unnoted (p .0)) &
       silent & silent & silent &
-      alone (kept-within _ t (getD (rec .share .banks .act .seen) b false) (getD (rec .share .banks .act .at) b 0) 0 (p .1)) &
+      alone (kept-within _ t (getD (rec .share .banks .act .seen) b false) (getD (rec .share .banks .act .at) b 0) unnoted (p .1)) &
       silent & silent & silent & silent & silent & silent &
-      alone (kept-within _ t (getD (rec .share .banks .rd .seen) b false) (getD (rec .share .banks .rd .at) b 0) 0 (p .2)) &
+      alone (kept-within _ t (getD (rec .share .banks .rd .seen) b false) (getD (rec .share .banks .rd .at) b 0) unnoted (p .2)) &
       silent &
-      alone (kept-within _ t (getD (rec .share .banks .wr .seen) b false) (getD (rec .share .banks .wr .at) b 0) (getD (rec .share .banks .wr .mr2) b 0)
-      (after-wr _ _ (getD (rec .share .banks .wr .mr2) b 0) (rec .share .mr2) t (p .3))) &
+      alone (kept-within _ t (getD (rec .share .banks .wr .seen) b false) (getD (rec .share .banks .wr .at) b 0) (modesOf (getD (rec .share .banks .wr .modes) b noModes))
+      (after-wr _ _ (getD (rec .share .banks .wr .modes) b noModes .mr2) (rec .share .modes .mr2) t (p .3))) &
       silent &
       silent & alone (once-within _ t (rec .share .moves .«power_exit») (w .3)) & silent & alone (once-within _ t (rec .share .moves .«self_exit») (w .4)) &
       silent & silent & silent & tt
 
   act-parts : (row : ℕ) → waitsOf d rec .idle ≤ t → idleCycle (laneOf rec b) (waitsOf d rec) d ≤ t → topOf (rec .share .banks .act .at) + d .trrd ≤ t
       → getD (rec .share .four .at) 3 0 + d .tfaw ≤ t → Quiet (rules.act b row)
-  unfolding Every delayRules rule bound from lagging across turned when is code kindOf carries bare bankAt bankOf idleUse precharged isFall isRise risesFrom permittedBy viewBy lookBoth lookIn shareOf asked once each notedEach preOf preaOf means latestOf latestMove laggingOf latestIf fourthOf clocksOf
+  unfolding Every delayRules rule bound from lagging recovering across turned when is code kindOf carries bare bankAt bankOf idleUse precharged isFall isRise risesFrom permittedBy viewBy lookBoth lookIn shareOf asked once each notedEach preOf preaOf means latestOf latestMove laggingOf latestIf fourthOf clocksOf modesOf
   act-parts row hi hl ht hf =
       let o = two _ _ t hi in
       let w = whole-parts (o .0) in
@@ -113,20 +113,20 @@ module _ (d : Delays) (rec : Single) (b t : ℕ) where
       alone (once-within _ t (rec .share .latest .mrw) (w .0)) &
       alone (once-within _ t (rec .share .latest .mrr) (w .1)) &
       alone (once-within _ t (rec .share .latest .refab) (w .2)) &
-      alone (kept-within _ t (getD (rec .share .banks .refpb .seen) b false) (getD (rec .share .banks .refpb .at) b 0) 0 (p .0)) &
+      alone (kept-within _ t (getD (rec .share .banks .refpb .seen) b false) (getD (rec .share .banks .refpb .at) b 0) unnoted (p .0)) &
       alone (unless-within _ t (outweighed (getD (rec .share .banks .pre .seen) b false) (rec .share .latest .prea .seen) (getD (rec .share .banks .pre .at) b 0) (rec .share .latest .prea .at))
-      (getD (rec .share .banks .pre .seen) b false) (getD (rec .share .banks .pre .at) b 0) 0 (p .1)) &
+      (getD (rec .share .banks .pre .seen) b false) (getD (rec .share .banks .pre .at) b 0) unnoted (p .1)) &
       alone (unless-within _ t (outweighed (rec .share .latest .prea .seen) (getD (rec .share .banks .pre .seen) b false) (rec .share .latest .prea .at) (getD (rec .share .banks .pre .at) b 0))
-      (rec .share .latest .prea .seen) (rec .share .latest .prea .at) 0 (r .0)) &
+      (rec .share .latest .prea .seen) (rec .share .latest .prea .at) unnoted (r .0)) &
       silent & silent &
-      alone (kept-within _ t (getD (rec .share .banks .act .seen) b false) (getD (rec .share .banks .act .at) b 0) 0 (p .2)) &
+      alone (kept-within _ t (getD (rec .share .banks .act .seen) b false) (getD (rec .share .banks .act .at) b 0) unnoted (p .2)) &
       others (r .1) ht &
       alone (fourth-within _ t (rec .share .four) hf) &
       silent & silent & silent & silent &
-      alone (kept-within _ t (getD (rec .share .banks .rda .seen) b false) (getD (rec .share .banks .rda .at) b 0) 0 (p .3)) &
+      alone (kept-within _ t (getD (rec .share .banks .rda .seen) b false) (getD (rec .share .banks .rda .at) b 0) unnoted (p .3)) &
       silent &
-      alone (kept-within _ t (getD (rec .share .banks .wra .seen) b false) (getD (rec .share .banks .wra .at) b 0) (getD (rec .share .banks .wra .mr2) b 0)
-      (after-two _ _ _ (getD (rec .share .banks .wra .mr2) b 0) (rec .share .mr2) t (l .1))) &
+      alone (kept-within _ t (getD (rec .share .banks .wra .seen) b false) (getD (rec .share .banks .wra .at) b 0) (modesOf (getD (rec .share .banks .wra .modes) b noModes))
+      (after-two _ _ _ (getD (rec .share .banks .wra .modes) b noModes .mr2) (rec .share .modes .mr2) t (l .1))) &
       silent & alone (once-within _ t (rec .share .moves .«power_exit») (w .3)) & silent & alone (once-within _ t (rec .share .moves .«self_exit») (w .4)) &
       silent & silent & silent & tt
     where

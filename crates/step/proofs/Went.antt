@@ -134,8 +134,8 @@ module _ {d : Delays} {rec : Single} {v : List ℕ} {most : ℕ} {banks : Banks}
     not-cold e = not-so (sym (rw (s .kind, e) at s .ready) ∙ parts .3)
 
     pub went : (h : Hot) → hot ≡ h → (a : Bool) → apOn (f .pins) ≡ a → (nops′ : ℕ) → nops′ + hotCount h ≡ nops + 1
-        → (banks′ : Banks) → banks′ ≡ banksThen h b a (f .stamp) (rec .share .mr2) banks
-        → (bus′ : Bus) → bus′ ≡ busThen h (f .stamp) (rec .share .mr2) bus
+        → (banks′ : Banks) → banks′ ≡ banksThen h b a (f .stamp) (rec .share .modes) banks
+        → (bus′ : Bus) → bus′ ≡ busThen h (f .stamp) (rec .share .modes) bus
         → (four′ : Four) → four′ ≡ fourThen h (f .stamp) four
         → Going d rec v most banks′ bus′ four′ (f .stamp) (used + 10) nops′
     went h k a l nops′ ks banks′ bs bus′ us four′ rs =
@@ -151,7 +151,7 @@ module _ {d : Delays} {rec : Single} {v : List ℕ} {most : ℕ} {banks : Banks}
         ap (λ (k : ℕ). quickOf k d now (drop used v)) n ∙ from-here _ n ∙ rw (not-false ok yes, ← r, ← c, drop-drop 10 used v) in
         record {
           same = g .same ∙ ap (goneBehind used commands 0) y ∙ behind-twice used commands 0 10 (hotCount h) 0 x ∙ ap (λ (m : ℕ). goneBehind (used + 10) m 0 x) more-commands;
-          kept = ap (λ (y : Banks). y .refpb) bs ∙ refpb-kept h b a t (rec .share .mr2) banks ∙ g .kept;
+          kept = ap (λ (y : Banks). y .refpb) bs ∙ refpb-kept h b a t (rec .share .modes) banks ∙ g .kept;
           stood = g .stood;
           ends = ends-there;
           whole = omega (arith, g .whole);

@@ -13,16 +13,16 @@ use borrow.Author.Tests.{le-leb}
 use Rattle.rules.specs.Lists.{Every}
 use Rattle.rules.specs.Bits.{bits, on}
 use Rattle.rules.specs.Commands.{banks}
-use Rattle.rules.specs.Registers.{Latency, row, latencies, atCode, rlOf, wlOf}
+use Rattle.rules.specs.Registers.{Latency, row, latencies, atCode, rlOf, wlOf, Modes}
 use Rattle.rules.specs.Folds.{Source, Rule, permitted, permittedBy, bound, firstBroken}
-use Rattle.rules.specs.Delays.{Ask, Asked, mine, Lookup, without, from}
+use Rattle.rules.specs.Delays.{Ask, Asked, mine, Lookup, unnoted, without, from}
 use Rattle.rules.proofs.Tests.{eq-cases, _&_}
 use Rattle.bank.specs.Values.{kept, once, place, four}
 use Rattle.bank.specs.declared.Once.{Once}
 use Rattle.bank.specs.declared.Four.{Four}
 use Rattle.step.specs.Ready.{max4, topOf}
 
-pub quiet : (look : Lookup) (t : ℕ) (qs : List (Rule Asked ℕ)) → Every (λ q. bound look q ≤ t) qs → firstBroken look qs t ≡ none
+pub quiet : (look : Lookup) (t : ℕ) (qs : List (Rule Asked Modes)) → Every (λ q. bound look q ≤ t) qs → firstBroken look qs t ≡ none
 unfolding Every firstBroken
 quiet look t [] h = refl
 quiet look t (q ∷ qs) h = rw (le-leb (bound look q) t (h .0)) (quiet look t qs (h .1))
@@ -37,28 +37,28 @@ alone {x} {t} h = omega arith
 pub both : {x y t : ℕ} → x ≤ t → y ≤ t → max x y ≤ t
 both {x} {y} {t} p q = omega arith
 
-module _ (s : Source Asked ℕ) (t : ℕ) where
+module _ (s : Source Asked Modes) (t : ℕ) where
   pub none-within : permitted s none ≤ t
   unfolding permitted
   none-within = omega arith
 
   -- the entry need not have been there
-  pub kept-within : (seen : Bool) (at noted : ℕ) → at + s .delay noted ≤ t → permitted s (getElem? (kept seen at noted) 0) ≤ t
+  pub kept-within : (seen : Bool) (at : ℕ) (noted : Modes) → at + s .delay noted ≤ t → permitted s (getElem? (kept seen at noted) 0) ≤ t
   unfolding permitted kept
   kept-within true at noted h = h
   kept-within false at noted h = omega arith
 
-  pub once-within : (x : Once) → x .at + s .delay 0 ≤ t → permitted s (getElem? (once x) 0) ≤ t
+  pub once-within : (x : Once) → x .at + s .delay unnoted ≤ t → permitted s (getElem? (once x) 0) ≤ t
   unfolding once
-  once-within x h = kept-within (x .seen) (x .at) 0 h
+  once-within x h = kept-within (x .seen) (x .at) unnoted h
 
   -- nor be the one that counts
-  pub unless-within : (o seen : Bool) (at noted : ℕ) → at + s .delay noted ≤ t → permitted s (getElem? (cond o [] (kept seen at noted)) 0) ≤ t
+  pub unless-within : (o seen : Bool) (at : ℕ) (noted : Modes) → at + s .delay noted ≤ t → permitted s (getElem? (cond o [] (kept seen at noted)) 0) ≤ t
   unfolding permitted
   unless-within true seen at noted h = omega arith
   unless-within false seen at noted h = kept-within seen at noted h
 
-  pub fourth-within : (x : Four) → getD (x .at) 3 0 + s .delay 0 ≤ t → permitted s (getElem? (four x) 3) ≤ t
+  pub fourth-within : (x : Four) → getD (x .at) 3 0 + s .delay unnoted ≤ t → permitted s (getElem? (four x) 3) ≤ t
   unfolding four permitted
   fourth-within x h = go (x .count)
     where
@@ -77,7 +77,7 @@ pub four-parts : (a b c d t : ℕ) → max4 a b c d ≤ t → (a ≤ t) × (b �
 four-parts a b c d t h = (omega arith, omega arith, omega arith, omega arith)
 
 -- a question asked for bank k
-abbrev pub about : Ask → (delay k : ℕ) → Source Asked ℕ
+abbrev pub about : Ask → (delay k : ℕ) → Source Asked Modes
 about a x k = record { ask = mine (record { ask = a; bank = k }); delay = λ m. x }
 
 pub others-within : (look : Lookup) (a : Ask) (x own t : ℕ) (bs : List ℕ) → Every (λ k. permitted (about a x k) (look (mine (record { ask = a; bank = k }))) ≤ t) bs
@@ -91,7 +91,7 @@ others-within look a x own t (k ∷ bs) h = go (eqb k own) (others-within look a
     go false r = both (h .0) r
 
 pub eight-within : (a : Ask) (seen : List Bool) (at : List ℕ) (x t : ℕ) → topOf at + x ≤ t
-    → Every (λ k. permitted (about a x k) (getElem? (kept (getD seen k false) (getD at k 0) 0) 0) ≤ t) banks
+    → Every (λ k. permitted (about a x k) (getElem? (kept (getD seen k false) (getD at k 0) unnoted) 0) ≤ t) banks
 unfolding Every banks
 eight-within a seen at x t h =
     let p = two _ _ (topOf at) (self (topOf at)) in
@@ -102,8 +102,8 @@ eight-within a seen at x t h =
     self : (n : ℕ) → n ≤ n
     self n = omega arith
 
-    one : (k : ℕ) → getD at k 0 ≤ topOf at → permitted (about a x k) (getElem? (kept (getD seen k false) (getD at k 0) 0) 0) ≤ t
-    one k l = kept-within (about a x k) t (getD seen k false) (getD at k 0) 0 (within (topOf at) l h)
+    one : (k : ℕ) → getD at k 0 ≤ topOf at → permitted (about a x k) (getElem? (kept (getD seen k false) (getD at k 0) unnoted) 0) ≤ t
+    one k l = kept-within (about a x k) t (getD seen k false) (getD at k 0) unnoted (within (topOf at) l h)
       where
         within : (m : ℕ) → getD at k 0 ≤ m → m + x ≤ t → getD at k 0 + x ≤ t
         within m p q = omega arith

@@ -7,12 +7,14 @@ use lib.Dec.{leb, ltb, eqb}
 use lib.ListN.{getD}
 use Rattle.rules.specs.Commands as rules
 use Rattle.rules.specs.Pins.{Decoded, good, wrongBits, reserved, decode}
-use Rattle.rules.specs.Registers.{rlOf, wlOf}
+use Rattle.rules.specs.Registers.{rlOf, wlOf, nwrOf}
 use Rattle.rules.specs.Levels.{awake, sameLevel}
+use Rattle.card.specs.Values.{modesOf}
 use Rattle.card.specs.declared.Delays.{Delays}
 use Rattle.pins.specs.Values.{levelOf}
 use Rattle.pins.specs.Places.{bankOn}
 use Rattle.ledger.specs.Values.{deadlineOf}
+use Rattle.bank.specs.Values.{noModes}
 use Rattle.bank.specs.declared.Bus.{Bus}
 use Rattle.bank.specs.declared.Latest.{Latest}
 use Rattle.bank.specs.declared.Moves.{Moves}
@@ -65,9 +67,9 @@ wholeOf d rec = max (restedOf d (rec .share .latest)) (wokenOf d (rec .share .mo
 -- RL and WL by the present MR2; with those rules 6, and 10 after REFpb
 abbrev pub waitsOf : Delays → Single → Waits
 waitsOf d rec = record {
-  mr2 = rec .share .mr2;
-  rl = rlOf (rec .share .mr2);
-  wl = wlOf (rec .share .mr2);
+  mr2 = rec .share .modes .mr2;
+  rl = rlOf (rec .share .modes .mr2);
+  wl = wlOf (rec .share .modes .mr2);
   whole = wholeOf d rec;
   idle = max (wholeOf d rec) (max (rec .share .latest .prea .at + d .trpab) (topOf (rec .share .banks .refpb .at) + d .trrd));
 }
@@ -83,9 +85,9 @@ laneOf rec b = record {
   rd = getD (rec .share .banks .rd .at) b 0;
   rda = getD (rec .share .banks .rda .at) b 0;
   wr = getD (rec .share .banks .wr .at) b 0;
-  «wr_mr2» = getD (rec .share .banks .wr .mr2) b 0;
+  «wr_modes» = getD (rec .share .banks .wr .modes) b noModes;
   wra = getD (rec .share .banks .wra .at) b 0;
-  «wra_mr2» = getD (rec .share .banks .wra .mr2) b 0;
+  «wra_modes» = getD (rec .share .banks .wra .modes) b noModes;
 }
 
 -- enough for every MR2, where another one than the present was noted
@@ -97,23 +99,23 @@ wrote w m = w .wl + 5 + slack w m
 
 -- rules 7, 12, 14
 abbrev pub rdCycle : Lane → Waits → Delays → Bus → ℕ
-rdCycle l w d bus = max4 (w .whole) (l .act + d .trcd) (bus .rd .at + 4) (bus .wr .at + d .twtr + wrote w (bus .wr .mr2))
+rdCycle l w d bus = max4 (w .whole) (l .act + d .trcd) (bus .rd .at + 4) (bus .wr .at + d .twtr + wrote w (bus .wr .modes .mr2))
 
 -- rules 7, 12, 13
 abbrev pub wrCycle : Lane → Waits → Delays → Bus → ℕ
-wrCycle l w d bus = max4 (w .whole) (l .act + d .trcd) (bus .wr .at + 4) (bus .turn .at + (w .rl + d .tdqsck + 5 - w .wl) + slack w (bus .turn .mr2))
+wrCycle l w d bus = max4 (w .whole) (l .act + d .trcd) (bus .wr .at + 4) (bus .turn .at + (w .rl + d .tdqsck + 5 - w .wl) + slack w (bus .turn .modes .mr2))
 
 -- rules 4, 8, 15, 17
 abbrev pub preCycle : Lane → Waits → Delays → ℕ
 preCycle l w d =
     max (w .whole)
-    (max4 (l .refpb + d .trfcpb) (l .act + d .tras) (l .rd + max 4 (d .trtp)) (l .wr + d .twr + wrote w (l .«wr_mr2»)))
+    (max4 (l .refpb + d .trfcpb) (l .act + d .tras) (l .rd + max 4 (d .trtp)) (l .wr + d .twr + wrote w (l .«wr_modes» .mr2)))
 
 -- rules 4, 5, 9, 16, 18, 10, 11
 abbrev pub idleCycle : Lane → Waits → Delays → ℕ
 idleCycle l w d =
     max (max4 (l .refpb + d .trfcpb) (l .pre + d .trppb) (l .act + d .trc) (l .rda + (max 4 (d .trtp) + d .trppb)))
-    (l .wra + (d .twr + d .trppb) + wrote w (l .«wra_mr2»))
+    (l .wra + (nwrOf (d .twr) (modesOf (l .«wra_modes»)) + d .trppb) + wrote w (l .«wra_modes» .mr2))
 
 abbrev pub actCycle : Lane → Waits → Delays → (acts : List ℕ) → (fourth : ℕ) → ℕ
 actCycle l w d acts fourth = max4 (w .idle) (idleCycle l w d) (topOf acts + d .trrd) (fourth + d .tfaw)

@@ -11,6 +11,7 @@ use crate::waits::later;
 use crate::waits::top;
 use bank::Bus;
 use card::Delays;
+use card::Modes;
 use card::greater;
 
 // What the record holds for the bank that a command names.
@@ -22,9 +23,9 @@ pub struct Lane {
     pub rd: u32,
     pub rda: u32,
     pub wr: u32,
-    pub wr_mr2: u8,
+    pub wr_modes: Modes,
     pub wra: u32,
-    pub wra_mr2: u8,
+    pub wra_modes: Modes,
 }
 
 fn latest4(a: u64, b: u64, c: u64, d: u64) -> u64
@@ -55,10 +56,10 @@ fn less(a: u64, b: u64) -> u64
 
 // Rule 13.
 fn after_turn(bus: Bus, w: Waits, delay: u32) -> u64
-    ensures { λ r. ⌜ r ≡ bus .turn .at + (w .rl + delay + 5 - w .wl) + slack w (bus .turn .mr2) ⌝ }
+    ensures { λ r. ⌜ r ≡ bus .turn .at + (w .rl + delay + 5 - w .wl) + slack w (bus .turn .modes .mr2) ⌝ }
 {
     let turned = less(w.rl as u64 + delay as u64 + 5, w.wl as u64);
-    bus.turn.at as u64 + turned + slack_of(w, bus.turn.mr2)
+    bus.turn.at as u64 + turned + slack_of(w, bus.turn.modes.mr2)
 }
 
 fn least(trtp: u32) -> u32
@@ -75,7 +76,7 @@ fn rd_cycle(l: Lane, w: Waits, d: Delays, bus: Bus) -> u64
         w.whole,
         after(l.act, d.trcd),
         after(bus.rd.at, 4),
-        after_wr(bus.wr.at, d.twtr, w, bus.wr.mr2),
+        after_wr(bus.wr.at, d.twtr, w, bus.wr.modes.mr2),
     )
 }
 
@@ -101,7 +102,7 @@ fn pre_cycle(l: Lane, w: Waits, d: Delays) -> u64
             after(l.refpb, d.trfcpb),
             after(l.act, d.tras),
             after(l.rd, least(d.trtp)),
-            after_wr(l.wr, d.twr, w, l.wr_mr2),
+            after_wr(l.wr, d.twr, w, l.wr_modes.mr2),
         ),
     )
 }
@@ -118,7 +119,8 @@ fn after_two(at: u32, one: u32, two: u32, more: u64) -> u64
 fn idle_cycle(l: Lane, w: Waits, d: Delays) -> u64
     ensures { λ r. ⌜ r ≡ idleCycle l w d ⌝ }
 {
-    let lag = w.wl as u64 + 5 + slack_of(w, l.wra_mr2);
+    let lag = w.wl as u64 + 5 + slack_of(w, l.wra_modes.mr2);
+    let nwr = card::nwr_of(l.wra_modes, d.twr);
     greater(
         latest4(
             after(l.refpb, d.trfcpb),
@@ -126,7 +128,7 @@ fn idle_cycle(l: Lane, w: Waits, d: Delays) -> u64
             after(l.act, d.trc),
             after_two(l.rda, least(d.trtp), d.trppb, 0),
         ),
-        after_two(l.wra, d.twr, d.trppb, lag),
+        after_two(l.wra, nwr, d.trppb, lag),
     )
 }
 

@@ -61,6 +61,7 @@ fn ended(
     let latest = rec.share.latest;
     let moves = rec.share.moves;
     let pace = rec.pace;
+    let modes = rec.share.modes;
     let moved = ledger::moved(rec.share.ledger, pace, card, last);
     let there = moved.ledger;
     Gone {
@@ -72,7 +73,7 @@ fn ended(
             },
             pace: pace,
             share: Share {
-                mr2: rec.share.mr2,
+                modes: modes,
                 counter: rec.share.counter,
                 latest: latest,
                 moves: moves,
@@ -109,7 +110,7 @@ pub fn quick_run(rec: Single, delays: Delays, bytes: &[u8], most: usize) -> Gone
         };
     }
     let waits = waits_of(rec, delays);
-    let mr2 = rec.share.mr2;
+    let modes = rec.share.modes;
     let banks = rec.share.banks;
     let refpb = banks.refpb;
     let mut opened = banks.opened;
@@ -142,9 +143,9 @@ pub fn quick_run(rec: Single, delays: Delays, bytes: &[u8], most: usize) -> Gone
             rd: rd.at[b],
             rda: rda.at[b],
             wr: wr.at[b],
-            wr_mr2: wr.mr2[b],
+            wr_modes: wr.modes[b],
             wra: wra.at[b],
-            wra_mr2: wra.mr2[b],
+            wra_modes: wra.modes[b],
         };
         let clear = ready(kind, lane, waits, delays, bus, acts, stamps[3], t);
         if !passes(front, last, end, clear) {
@@ -177,7 +178,7 @@ pub fn quick_run(rec: Single, delays: Delays, bytes: &[u8], most: usize) -> Gone
                 let turn = Noted {
                     seen: true,
                     at: t,
-                    mr2: mr2,
+                    modes: modes,
                 };
                 bus.rd = now;
                 bus.turn = turn;
@@ -193,16 +194,16 @@ pub fn quick_run(rec: Single, delays: Delays, bytes: &[u8], most: usize) -> Gone
                 let now = Noted {
                     seen: true,
                     at: t,
-                    mr2: mr2,
+                    modes: modes,
                 };
                 bus.wr = now;
                 wr.at[b] = t;
                 wr.seen[b] = true;
-                wr.mr2[b] = mr2;
+                wr.modes[b] = modes;
                 if ap_on(p) {
                     wra.at[b] = t;
                     wra.seen[b] = true;
-                    wra.mr2[b] = mr2;
+                    wra.modes[b] = modes;
                     opened[b] = false;
                 }
             }

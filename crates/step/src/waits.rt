@@ -67,7 +67,7 @@ fn whole(rec: Single, d: Delays) -> u64
 pub fn waits_of(rec: Single, d: Delays) -> Waits
     ensures { λ r. ⌜ r ≡ waitsOf d rec ⌝ }
 {
-    let mr2 = rec.share.mr2;
+    let mr2 = rec.share.modes.mr2;
     let latency = card::latency_of(mr2);
     let refpb = rec.share.banks.refpb;
     let at = refpb.at;

@@ -9,7 +9,15 @@ use Rattle.bank.proofs.fresh.fresh_record.Tie as tie
 
 returns : tie.Need-returns
 unfolding never freshOf
-returns c = rw (sym (pace-is _) ∙ ap paceIn (c .before .before .first-pace .ensures), c .before .fresh-share .ensures, c .fresh-share2 .ensures)
+returns c =
+    let f = c .before .before in
+    rw (
+      sym (pace-is _) ∙ ap paceIn (f .before .before .first-pace .ensures),
+      f .fresh-share .ensures,
+      f .before .start .ensures,
+      c .fresh-share2 .ensures,
+      c .before .start2 .ensures,
+    )
 
 pub fresh-record-spec : {M : Type 1} → statement M
-fresh-record-spec = tie.close (tie.spec (λ c κs. search needs) (λ c κs. search needs) (λ c κs. search needs) returns)
+fresh-record-spec = tie.close (tie.spec (λ c κs. search needs) (λ c κs. search needs) (λ c κs. search needs) (λ c κs. search needs) (λ c κs. search needs) returns)

@@ -6,13 +6,14 @@ use native.Mathlib.Omega.{arith}
 use lib.ListN.{getD}
 use borrow.Author.Needs.{needs}
 use Rattle.rules.proofs.Onward.{onward, fails, goes-on, passes}
+use Rattle.bank.specs.Values.{noModes}
 use Rattle.bank.specs.Clauses.{noteGood, notesGood}
 use Rattle.bank.proofs.Stored.{all-onward}
 use Rattle.bank.proofs.sound.notes_good.Statement.{statement}
 use Rattle.bank.proofs.sound.notes_good.Tie as tie
 
 abbrev Inv-loop : tie.InvT-loop
-Inv-loop period now x i₀ i = (i ≤ 8) × (notesGood period (x .seen) (x .mr2) ≡ onward (λ k. noteGood period (getD (x .seen) k false) (getD (x .mr2) k 0)) i (8 - i))
+Inv-loop period now x i₀ i = (i ≤ 8) × (notesGood period (x .seen) (x .modes) ≡ onward (λ k. noteGood period (getD (x .seen) k false) (getD (x .modes) k noModes .mr2)) i (8 - i))
 
 abbrev μ-loop : tie.MeasureT-loop
 μ-loop period now x i₀ i = 8 - i
@@ -39,6 +40,7 @@ notes-good-spec =
     Inv-loop
     μ-loop
     loop-holds
+    (λ c. omega arith)
     (λ c. omega arith)
     (λ c. omega arith)
     (λ c κs. search needs)

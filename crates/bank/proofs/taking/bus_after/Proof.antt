@@ -1,4 +1,4 @@
--- Those of the data bus, with MR2 as it stood.
+-- Those of the data bus, with the mode registers as they stood.
 use borrow.Author.Needs.{needs}
 use Prim.Native.Nat.{ℕ}
 use mathlib.Core.List.{List, [], _∷_}

@@ -3,7 +3,7 @@ use borrow.Author.Needs.{needs}
 use mathlib.Core.Bool.{true}
 use native.Mathlib.Omega.{arith}
 use lib.Seq.{set-out}
-use Rattle.bank.proofs.Sizes.{held}
+use Rattle.bank.proofs.Sizes.{held-by, held}
 use Rattle.bank.proofs.taking.put_noted.Statement.{statement}
 use Rattle.bank.proofs.taking.put_noted.Tie as tie
 
@@ -14,7 +14,7 @@ returns c =
     rw (
       set-out (a .x .seen) (a .bank) true (omega (arith, held (a .x .seen) (g .0 .1 .0 .1))),
       set-out (a .x .at) (a .bank) (a .t) (omega (arith, held (a .x .at) (g .1 .0 .1 .0 .1))),
-      set-out (a .x .mr2) (a .bank) (a .mr2) (omega (arith, held (a .x .mr2) (g .1 .1 .0 .1 .0 .1))),
+      set-out (a .x .modes) (a .bank) (a .modes) (omega (arith, held-by _ _ (a .x .modes) (g .1 .1 .0 .1 .0 .1))),
     )
 
 element-write-next : tie.Need-element-write-next
@@ -26,8 +26,11 @@ mul-next c = search needs
 element-write-next-2 : tie.Need-element-write-next-2
 element-write-next-2 c = search needs
 
-element-write-next-3 : tie.Need-element-write-next-3
-element-write-next-3 c = search needs
+mul-modes : tie.Need-mul-modes
+mul-modes c = search needs
+
+element-set-from-modes : tie.Need-element-set-from-modes
+element-set-from-modes c = search needs
 
 returns-2 : tie.Need-returns-2
 returns-2 c = search needs
@@ -40,5 +43,6 @@ put-noted-spec =
     element-write-next
     mul-next
     element-write-next-2
-    element-write-next-3
+    mul-modes
+    element-set-from-modes
     returns-2)

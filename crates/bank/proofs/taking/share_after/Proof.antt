@@ -8,7 +8,7 @@ returns : tie.Need-returns
 unfolding shareAfter
 returns c =
     rw (
-      c .before .before .before .before .before .before .mr2-after .ensures,
+      c .before .before .before .before .before .before .modes-after .ensures,
       c .before .before .before .before .before .counter-after .ensures,
       c .before .before .before .before .latest-after .ensures,
       c .before .before .before .moves-after .ensures,

@@ -1,7 +1,7 @@
 use borrow.Author.Needs.{needs}
 use Rattle.rules.specs.Commands.{code, is}
 use Rattle.rules.specs.Levels.{stays}
-use Rattle.bank.specs.Values.{freshShare}
+use Rattle.bank.specs.Values.{noModes, freshShare}
 use Rattle.bounds.specs.Parts.{acrossOf}
 use Rattle.bounds.proofs.Ruled.{across-are}
 use Rattle.bounds.proofs.across.across.Statement.{statement}
@@ -14,7 +14,7 @@ returns c =
     let s = b .before in
     let a = s .before .before .before .before .args in
     rw (
-      across-are (freshShare 0) (a .d) (a .command) (a .theirs) stays,
+      across-are (freshShare noModes) (a .d) (a .command) (a .theirs) stays,
       c .beyond4 .ensures,
       c .before .wide2 .ensures .0,
       c .before .before .beyond3 .ensures,

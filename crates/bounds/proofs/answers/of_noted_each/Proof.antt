@@ -3,7 +3,8 @@ use mathlib.Core.Bool.{false}
 use native.Mathlib.Omega.{arith}
 use lib.ListN.{List·getD-eq-default}
 use borrow.Author.Needs.{needs}
-use Rattle.bank.proofs.Sizes.{held}
+use Rattle.bank.specs.Values.{noModes}
+use Rattle.bank.proofs.Sizes.{held-by, held}
 use Rattle.bounds.proofs.answers.of_noted_each.Statement.{statement}
 use Rattle.bounds.proofs.answers.of_noted_each.Tie as tie
 
@@ -14,8 +15,8 @@ returns c =
     rw (
       List·getD-eq-default (a .t1 .seen) false {n = a .bank} (omega (arith, held (a .t1 .seen) (g .0 .1 .0 .1))),
       List·getD-eq-default (a .t1 .at) 0 {n = a .bank} (omega (arith, held (a .t1 .at) (g .1 .0 .1 .0 .1))),
-      List·getD-eq-default (a .t1 .mr2) 0 {n = a .bank} (omega (arith, held (a .t1 .mr2) (g .1 .1 .0 .1 .0 .1))),
+      List·getD-eq-default (a .t1 .modes) noModes {n = a .bank} (omega (arith, held-by _ _ (a .t1 .modes) (g .1 .1 .0 .1 .0 .1))),
     )
 
 pub of-noted-each-spec : {M : Type 1} → statement M
-of-noted-each-spec = tie.close (tie.spec returns (λ c. search needs) (λ c. search needs) (λ c. search needs) (λ c. search needs) (λ c. search needs))
+of-noted-each-spec = tie.close (tie.spec returns (λ c. search needs) (λ c. search needs) (λ c. search needs) (λ c. search needs) (λ c. search needs) (λ c. search needs))

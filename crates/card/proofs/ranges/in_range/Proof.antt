@@ -4,21 +4,27 @@ use borrow.Author.Needs.{needs}
 use Rattle.rules.specs.Ranges.{cardGood}
 use Rattle.card.specs.Values.{cardOf}
 use Rattle.card.specs.Reading.{good}
+use Rattle.card.proofs.Numbers.{start-good}
 use Rattle.card.proofs.ranges.in_range.Statement.{statement}
 use Rattle.card.proofs.ranges.in_range.Tie as tie
 
 returns : tie.Need-returns
 unfolding cardGood cardOf good
 returns c =
-    let s = c .before .before .before in
+    let k = c .before in
+    let t = k .before .before .before in
+    let s = t .before .before .before .before in
+    let card = s .before .before .args .card in
     rw (
-      s .before .before .before .before .value-good .ensures,
-      s .before .before .before .mr2-good .ensures,
-      s .before .value-good2 .ensures,
-      s .value-good3 .ensures,
-      c .before .before .timings-good .ensures,
-      c .value-good4 .ensures,
-      le-leb (s .before .before .before .before .before .args .card .gap) 255 (omega (arith, c .before .struct-known2 .given .1 .1 .1 .1 .1 .1 .1 .1 .0)),
+      s .before .value-good .ensures,
+      s .mr2-good .ensures,
+      t .before .before .value-good2 .ensures,
+      t .before .value-good3 .ensures,
+      t .timings-good .ensures,
+      k .before .value-good4 .ensures,
+      c .mr1-good .ensures,
+      start-good (card .programmed) (card .mr1) (omega (arith, k .struct-known3 .given .1 .1 .1 .1 .1 .1 .1 .1 .0)),
+      le-leb (card .gap) 255 (omega (arith, k .struct-known3 .given .1 .1 .1 .1 .1 .1 .1 .1 .1 .1 .0)),
     )
 
 pub in-range-spec : {M : Type 1} → statement M
@@ -28,6 +34,7 @@ in-range-spec =
     (λ c κs. search needs)
     (λ c κs. search needs)
     (λ c. search needs)
+    (λ c κs. search needs)
     (λ c κs. search needs)
     (λ c κs. search needs)
     (λ c κs. search needs)

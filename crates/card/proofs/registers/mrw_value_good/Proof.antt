@@ -1,19 +1,13 @@
-use Prim.Native.Nat.{_/_, _%_}
-use mathlib.Core.Path.{_≡_, _∙_}
-use native.Mathlib.Omega.{arith}
+use mathlib.Core.Path.{_∙_}
 use borrow.Author.Tests.{eq-eqb, ne-eqb}
 use borrow.Author.Needs.{needs}
-use Rattle.rules.specs.Bits.{bits}
-use Rattle.rules.specs.Registers.{mr1Good, mayWrite}
+use Rattle.rules.specs.Registers.{mayWrite}
 use Rattle.card.proofs.registers.mrw_value_good.Statement.{statement}
 use Rattle.card.proofs.registers.mrw_value_good.Tie as tie
 
 returns : tie.Need-returns
-unfolding mayWrite mr1Good bits
-returns c =
-    let o = c .before .args .op in
-    let e : o / 1 % 8 ≡ o % 8 = omega arith in
-    rw (eq-eqb _ _ (c .if1 .taken), e)
+unfolding mayWrite
+returns c = c .mr1-good .ensures ∙ rw (eq-eqb _ _ (c .before .if1 .taken))
 
 returns-2 : tie.Need-returns-2
 unfolding mayWrite
@@ -24,4 +18,4 @@ unfolding mayWrite
 returns-3 c = rw (ne-eqb _ _ (c .before .if1 .left), ne-eqb _ _ (c .if2 .left))
 
 pub mrw-value-good-spec : {M : Type 1} → statement M
-mrw-value-good-spec = tie.close (tie.spec returns (λ c κs. search needs) returns-2 returns-3)
+mrw-value-good-spec = tie.close (tie.spec (λ c κs. search needs) returns (λ c κs. search needs) returns-2 returns-3)

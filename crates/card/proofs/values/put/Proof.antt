@@ -4,7 +4,7 @@ use borrow.Author.Needs.{needs}
 use Rattle.rules.specs.Ranges.{within}
 use Rattle.card.specs.Reading.{good, put}
 use Rattle.card.proofs.Lengths.{a-timing}
-use Rattle.card.proofs.Numbers.{mr2-byte, groups-short, gap-byte}
+use Rattle.card.proofs.Numbers.{mr2-byte, start-byte, groups-short, gap-byte}
 use Rattle.card.proofs.values.put.Statement.{statement}
 use Rattle.card.proofs.values.put.Tie as tie
 
@@ -36,22 +36,32 @@ cast-next-3 : tie.Need-cast-next-3
 unfolding good
 cast-next-3 c =
     let a = c .before .before .before .before .before in
-    omega (arith, gap-byte (not (a .args .card .sleeps)) (a .args .x) (rw (c .if5 .taken) at (a .pre .1)))
+    omega (arith, start-byte _ (rw (c .if5 .taken) at (a .pre .1)))
 
 returns-5 : tie.Need-returns-5
 unfolding put within
 returns-5 c = rw (c .if5 .taken)
 
+cast-next-4 : tie.Need-cast-next-4
+unfolding good
+cast-next-4 c =
+    let a = c .before .before .before .before .before .before in
+    omega (arith, gap-byte (not (a .args .card .sleeps)) (a .args .x) (rw (c .if6 .taken) at (a .pre .1)))
+
 returns-6 : tie.Need-returns-6
 unfolding put within
 returns-6 c = rw (c .if6 .taken)
 
+returns-7 : tie.Need-returns-7
+unfolding put within
+returns-7 c = rw (c .if7 .taken)
+
 -- where none of the tests held, the tag is a timing's
 put-timing-requires : tie.Need-put-timing-requires
 put-timing-requires c κs =
-    let s = c .before .before .before in
-    a-timing _ (s .before .before .before .pre .0) (s .before .before .if1 .left) (s .before .if2 .left) (s .if3 .left) (c .before .before .if4 .left)
-    (c .before .if5 .left) (c .if6 .left)
+    let s = c .before .before .before .before in
+    a-timing _ (s .before .before .before .pre .0) (s .before .before .if1 .left) (s .before .if2 .left) (s .if3 .left) (c .before .before .before .if4 .left)
+    (c .before .before .if5 .left) (c .before .if6 .left) (c .if7 .left)
 
 pub put-spec : {M : Type 1} → statement M
 put-spec =
@@ -65,6 +75,8 @@ put-spec =
     returns-4
     cast-next-3
     returns-5
+    cast-next-4
     returns-6
+    returns-7
     put-timing-requires
     (λ c. search needs))

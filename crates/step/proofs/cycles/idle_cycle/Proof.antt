@@ -14,7 +14,8 @@ returns c =
       c .before .before .before .before .before .after3 .ensures,
       c .before .before .before .before .before .before .after2 .ensures,
       c .before .before .before .before .before .before .before .after .ensures,
-      c .before .before .before .before .before .before .before .before .slack-of .ensures .0,
+      c .before .before .before .before .before .before .before .before .nwr-of .ensures,
+      c .before .before .before .before .before .before .before .before .before .slack-of .ensures .0,
       add-zero,
     )
 
@@ -26,6 +27,7 @@ idle-cycle-spec =
     (λ c. search needs)
     (λ c κs. search needs)
     (λ c. search needs)
+    (λ c κs. search needs)
     (λ c κs. search needs)
     (λ c κs. search needs)
     (λ c κs. search needs)

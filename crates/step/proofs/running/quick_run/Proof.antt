@@ -14,11 +14,11 @@ use Rattle.step.proofs.running.quick_run.Statement.{statement}
 use Rattle.step.proofs.running.quick_run.Tie as tie
 
 abbrev Inv-loop : tie.InvT-loop
-Inv-loop rec delays bytes most end waits mr2 refpb opened₀ pre₀ act₀ rd₀ rda₀ wr₀ wra₀ bus₀ four₀ last₀ used₀ nops₀ within opened pre act rd rda wr wra bus four last used nops =
+Inv-loop rec delays bytes most end waits modes refpb opened₀ pre₀ act₀ rd₀ rda₀ wr₀ wra₀ bus₀ four₀ last₀ used₀ nops₀ within opened pre act rd rda wr wra bus four last used nops =
     Going delays rec bytes most (record { opened = opened; refpb = refpb; pre = pre; act = act; rd = rd; rda = rda; wr = wr; wra = wra }) bus four last used nops
 
 abbrev μ-loop : tie.MeasureT-loop
-μ-loop rec delays bytes most end waits mr2 refpb opened₀ pre₀ act₀ rd₀ rda₀ wr₀ wra₀ bus₀ four₀ last₀ used₀ nops₀ within opened pre act rd rda wr wra bus four last used nops =
+μ-loop rec delays bytes most end waits modes refpb opened₀ pre₀ act₀ rd₀ rda₀ wr₀ wra₀ bus₀ four₀ last₀ used₀ nops₀ within opened pre act rd rda wr wra bus four last used nops =
     length bytes + 1 - used
 
 -- earlier places: the entry, the loop's head, and the first call
@@ -29,7 +29,7 @@ abbrev head : tie.After-passes Inv-loop μ-loop → tie.At-loop Inv-loop μ-loop
 head c = found c .before .before
 
 abbrev first : tie.At-loop Inv-loop μ-loop → tie.After-deadline Inv-loop μ-loop
-first c = c .before .before .before .before .before .before .before .before .before .before .before .before .before .before .before .before .before
+first c = c .before .before .before .before .before .before .before .before .before .before .before .before .before .before .before .before .before .before
 
 -- what is known of an entry where the tests are made
 saw : (c : tie.After-passes Inv-loop μ-loop) →
@@ -41,7 +41,7 @@ saw : (c : tie.After-passes Inv-loop μ-loop) →
     (found c .entry-at .result)
     (hotWith (c .before .before .before .before .before .before .before .before .before .before .before .before .before .before .kind-on .result))
     (c .before .before .before .before .before .before .before .before .before .before .before .before .before .bank-on .result)
-    (head c .before .before .before .before .before .before .before .before .before .before .before .before .before .before .waits-of .result)
+    (head c .before .before .before .before .before .before .before .before .before .before .before .before .before .before .before .waits-of .result)
     (first (head c) .deadline .result) (c .before .ready .result) (c .passes .result)
 saw c = record {
   going = head c .loop .inv;
@@ -49,7 +49,7 @@ saw c = record {
   front = rw (rest-of (take (head c .before .before .most-bytes .result) (first (head c) .before .before .args .bytes .now)) (head c .loop .used)) at (found c .entry-at .ensures);
   kind = c .before .before .before .before .before .before .before .before .before .before .before .before .before .before .kind-on .ensures;
   bank = c .before .before .before .before .before .before .before .before .before .before .before .before .before .bank-on .ensures;
-  waits = head c .before .before .before .before .before .before .before .before .before .before .before .before .before .before .waits-of .ensures;
+  waits = head c .before .before .before .before .before .before .before .before .before .before .before .before .before .before .before .waits-of .ensures;
   deadline = first (head c) .deadline .ensures;
   ready = c .before .ready .ensures;
   passes = c .passes .ensures;
@@ -60,7 +60,7 @@ returns c = unbegun _ _ _ _ (c .before .before .deadline .ensures) _ (c .before 
 
 loop-holds : tie.Need-loop-holds Inv-loop μ-loop
 loop-holds c =
-    let b = c .before .before .before .before .before .before .before .before .before .before .before .before .before in
+    let b = c .before .before .before .before .before .before .before .before .before .before .before .before .before .before in
     begun _ _ _ _ (b .before .before .before .deadline .ensures) _ (b .before .before .stands .ensures) _ (b .before .if1 .left)
 
 returns-2 : tie.Need-returns-2 Inv-loop μ-loop
@@ -163,6 +163,8 @@ quick-run-spec =
     (λ c. search needs)
     (λ c. search needs)
     (λ c. search needs)
+    (λ c. search needs)
+    (λ c. search needs)
     (λ c κs. search needs)
     (λ c κs. search needs)
     (λ c κs. search needs)
@@ -194,7 +196,9 @@ quick-run-spec =
     (λ c. search needs)
     (λ c. search needs)
     (λ c. search needs)
+    (λ c. search needs)
     (λ c κs. search needs)
+    (λ c. search needs)
     (λ c. search needs)
     (λ c. search needs)
     (λ c. search needs)

@@ -28,8 +28,8 @@ arrays c =
       act = each-whole (r .share .banks .act) (act .0 .1 .0 .1) (act .1 .0 .1 .0 .1);
       rd = each-whole (r .share .banks .rd) (rd .0 .1 .0 .1) (rd .1 .0 .1 .0 .1);
       rda = each-whole (r .share .banks .rda) (rda .0 .1 .0 .1) (rda .1 .0 .1 .0 .1);
-      wr = noted-whole (r .share .banks .wr) (wr .0 .1 .0 .1) (wr .1 .0 .1 .0 .1) (wr .1 .1 .0 .1 .0 .1);
-      wra = noted-whole (r .share .banks .wra) (wra .0 .1 .0 .1) (wra .1 .0 .1 .0 .1) (wra .1 .1 .0 .1 .0 .1);
+      wr = noted-whole _ _ (r .share .banks .wr) (wr .0 .1 .0 .1) (wr .1 .0 .1 .0 .1) (wr .1 .1 .0 .1 .0 .1);
+      wra = noted-whole _ _ (r .share .banks .wra) (wra .0 .1 .0 .1) (wra .1 .0 .1 .0 .1) (wra .1 .1 .0 .1 .0 .1);
     }
 
 small : (c : tie.Start) → length (now (c .args .bytes)) < 2 ^ 64
