@@ -73,9 +73,17 @@ function explain_refusal(number, rule, offset, cycle,    b, n, mode, due) {
     if (number == 11 && (mode == "two" || heats > 0))
         explain_account(offset, rule, cycle, b)
     if (number == 4 || number == 9)
-        print "range  " says["range " (number == 9 ? TAG["mr2"] : SIZE[due] == 5 ? 5 : due)]
+        print "range  " says["range " ranged(number, due, number_at(b, 8, 3), mode)]
     if (rule > 0)
         print "cycle  " cycle ": " says["cycle " number]
+}
+
+# Whose range is told: that of a card value by its tag, or of the register that an MRW writes.
+function ranged(number, due, p, mode,    v) {
+    if (number == 4)
+        return SIZE[due] == 5 ? 5 : due
+    name_on(p, mode, v)
+    return TAG["mr" v["ma"]]
 }
 
 # Takes the card's fields before the offset: `size` bytes of them, the last one with tag `last`, their text in value, the first byte of each value in byte, and how
