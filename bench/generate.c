@@ -1,15 +1,16 @@
 /* Writes traces to standard output, the same for the same seed.
      generate KIND SEED [COUNT]   one trace; KIND is legal, sleeping (legal, with moves of clock-enable), paired (legal,
                                   of two parts), heated (legal, with fields of tag 34), programmed (legal, with tag 23
-                                  and writes of MR1), perturbed, hostile or far; about COUNT entries (far goes past
-                                  200,000 refreshes to the last of the 32-bit cycles); a seed divisible by four takes
-                                  the bench card
+                                  and writes of MR1), perturbed, hostile, disordered (with a tag where it may not come)
+                                  or far; about COUNT entries (far goes past 200,000 refreshes to the last of the 32-bit
+                                  cycles); a seed divisible by four takes the bench card
      generate --many N SEED       N traces of mixed kinds, a third of them with sleeps, a third of two parts; a third,
                                   whatever else they have, with fields of tag 34, and a third with tag 23 or writes of
                                   MR1 that are listed; and every cut of some, each behind its length (4 bytes,
-                                  big-endian)
+                                  big-endian). More than a quarter of all have a wrong tag before anything else that is
+                                  wrong
      generate --pick K            the K-th trace (from 1) of such a stream on standard input */
-#include "traces/faults.h"
+#include "traces/orders.h"
 
 static void make(const char *kind, struct form form, uint64_t from, size_t count)
 {
@@ -23,12 +24,17 @@ static void make(const char *kind, struct form form, uint64_t from, size_t count
         serialize();
         return;
     }
+    bool hostile = !strcmp(kind, "hostile"), disordered = !strcmp(kind, "disordered");
     legal(bench, form, count);
-    if (!strcmp(kind, "perturbed") || (!strcmp(kind, "hostile") && one_in(4)))
+    if (!strcmp(kind, "perturbed") || (hostile && one_in(4)) || (disordered && one_in(12)))
         for (unsigned n = one_in(2) ? 1 : (unsigned)between(2, 4); n--;)
             perturb();
+    if (disordered)
+        add_optional();
     serialize();
-    if (!strcmp(kind, "hostile")) {
+    if (disordered)
+        disorder();
+    if (hostile) {
         if (one_in(50)) {
             bytes.n = 0;
             insert_random(0, below(400));
@@ -66,8 +72,9 @@ static struct form some_form(void)
 
 static void many(uint64_t n, uint64_t from)
 {
-    static const char *const kinds[] = {"legal",     "legal",     "legal",   "perturbed", "perturbed",
-                                        "perturbed", "perturbed", "hostile", "hostile",   "perturbed"};
+    static const char *const kinds[] = {"legal",     "legal",      "legal",      "perturbed",  "perturbed",
+                                        "perturbed", "perturbed",  "perturbed",  "perturbed",  "hostile",
+                                        "hostile",   "disordered", "disordered", "disordered", "disordered"};
     for (uint64_t i = 0; i < n; i++) {
         seed = from + i * 0xD1342543DE82EF95;
         uint64_t own = draw();
@@ -110,9 +117,10 @@ static int pick(uint64_t k)
 
 static int usage(void)
 {
-    fprintf(stderr, "usage: generate legal|sleeping|paired|heated|programmed|perturbed|hostile|far SEED [COUNT]\n"
+    fprintf(stderr, "usage: generate KIND SEED [COUNT]\n"
                     "       generate --many N SEED\n"
-                    "       generate --pick K\n");
+                    "       generate --pick K\n"
+                    "KIND: legal|sleeping|paired|heated|programmed|perturbed|hostile|disordered|far\n");
     return 2;
 }
 
@@ -129,7 +137,7 @@ int main(int argc, char **argv)
         status = pick(a);
     else if (!strcmp(kind, "legal") || !strcmp(kind, "sleeping") || !strcmp(kind, "paired") ||
              !strcmp(kind, "heated") || !strcmp(kind, "programmed") || !strcmp(kind, "perturbed") ||
-             !strcmp(kind, "hostile") || !strcmp(kind, "far")) {
+             !strcmp(kind, "hostile") || !strcmp(kind, "disordered") || !strcmp(kind, "far")) {
         bool heated = !strcmp(kind, "heated"), programmed = !strcmp(kind, "programmed");
         struct form form = {!strcmp(kind, "sleeping"), !strcmp(kind, "paired"), heated, heated, programmed, programmed};
         make(kind, form, a, b);

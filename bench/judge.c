@@ -23,6 +23,7 @@ static struct {
     uint8_t buf[ROOM];
     size_t at, end;
     uint64_t offset, left;
+    uint64_t tags; /* of the fields that were taken, one bit each */
 } in;
 
 static struct {
@@ -188,20 +189,41 @@ static void accepted(const struct record *part, int64_t last)
                               refreshes, ledger_at(part, last), second);
 }
 
-/* The number a field's head is refused with, or 0 where the whole field is at hand. */
-static unsigned head(bool tag_fits, unsigned length)
+#define BIT(tag) (UINT64_C(1) << (tag))
+#define TAGS(low, high) (BIT((high) + 1) - BIT(low))
+#define FOUR TAGS(19, 22)
+#define CARD (TAGS(1, 23) | TAGS(25, 26))
+
+/* Refuses a tag that may not come here. Where it or a higher one was taken, the set of those taken is, as a number, not
+   below its bit. */
+static void wrong_tag(unsigned tag)
+{
+    uint64_t own = tag < 64 ? BIT(tag) : 0, required = TAGS(1, 18) | BIT(33);
+    if ((in.tags | own) & FOUR)
+        required |= FOUR;
+    unsigned expected = 1;
+    while (!(required & ~in.tags & BIT(expected)))
+        expected++;
+    if (!(own & (CARD | TAGS(32, 34))))
+        refused(17, expected, 0);
+    else
+        refused(own & CARD && own <= in.tags ? 18 : 19, expected, 0);
+}
+
+/* Whether a field is whole at hand, with a tag that fits and of this length. False: the verdict is out. */
+static bool head(bool tag_fits, unsigned length)
 {
     size_t n = have(3 + length);
     const uint8_t *p = in.buf + in.at;
-    if (n == 0)
-        return 1;
-    if (!tag_fits)
-        return 2;
-    if (n < 3)
-        return 1;
-    if (big(p + 1, 2) != length)
-        return 3;
-    return n < 3 + length ? 1 : 0;
+    if (n && !tag_fits)
+        wrong_tag(*p);
+    else if (n >= 3 && big(p + 1, 2) != length)
+        refused(3, 0, 0);
+    else if (n < 3 + length)
+        refused(1, 0, 0);
+    else
+        return true;
+    return false;
 }
 
 /* False: a value out of range. */
@@ -253,17 +275,18 @@ static bool read_card(struct card *c)
 {
     static const uint8_t lengths[] = {4, 1, 2, 4};
     memset(c, 0, sizeof *c);
+    in.tags = 0;
     for (unsigned tag = 1; tag; tag = next_tag(tag)) {
         unsigned length = tag <= 4 ? lengths[tag - 1] : tag == 23 || tag == 25 ? 1 : tag == 26 ? 4 : 5;
         bool fits = have(1) && in.buf[in.at] == tag;
-        unsigned number = head(fits, length);
-        if (!number && !read_value(c, tag, in.buf + in.at + 3))
-            number = 4;
-        if (number) {
-            refused(number, 0, 0);
+        if (!head(fits, length))
+            return false;
+        if (!read_value(c, tag, in.buf + in.at + 3)) {
+            refused(4, 0, 0);
             return false;
         }
         take(3 + length);
+        in.tags |= BIT(tag);
         c->sleeps = tag == 22 || c->sleeps;
     }
     return true;
@@ -293,6 +316,7 @@ INLINE bool entries_of(struct record *part, bool two, bool lines)
             line(stamp, k, bank, !two ? NONE : (all & CS_NS) == CS_NS ? NEITHER : FIRST + which);
     }
     take((size_t)(p - start));
+    in.tags |= p > start ? BIT(32) : 0;
     if (!good)
         refused(no.number, no.rule, no.cycle);
     return good;
@@ -329,6 +353,7 @@ static bool temperature(struct record *part)
         return false;
     }
     take(8);
+    in.tags |= BIT(34);
     return true;
 }
 
@@ -346,11 +371,8 @@ static void judge(bool lines)
         unsigned tag = n ? p[0] : 0;
         if (n >= ENTRY && tag == 32 && big(p + 1, 2) == 7)
             continue;
-        unsigned number = head(tag >= 32 && tag <= 34, tag == 32 ? 7 : tag == 34 ? 5 : 4);
-        if (number) {
-            refused(number, 0, 0);
+        if (!head(tag >= 32 && tag <= 34, tag == 32 ? 7 : tag == 34 ? 5 : 4))
             return;
-        }
         if (tag == 33) {
             judge_end(part);
             return;

@@ -1,5 +1,5 @@
 # The form of a trace: the card's fields by tag, commands and moves of clock-enable on the pins, a field as text. Document 01, "The file" and "Commands on the
-# pins"; document 02, One, Two, Nine and Eleven.
+# pins"; document 02, One, Two, Three, Nine and Eleven.
 # Numbers of 32 bits are printed by %.0f: %d stops at 2^31 - 1 in some awks.
 
 BEGIN {
@@ -9,9 +9,9 @@ BEGIN {
     group(25, "gap")
     group(26, "raise")
     SIZE[1] = 4; SIZE[2] = 1; SIZE[3] = 2; SIZE[4] = 4; SIZE[23] = SIZE[25] = 1; SIZE[26] = 4
-    ENTRY = 32; SIZE[ENTRY] = 7
-    LAST = 33; SIZE[LAST] = 4
-    HEAT = 34; SIZE[HEAT] = 5
+    ENTRY = 32; SIZE[ENTRY] = 7; TITLE[ENTRY] = "an entry"
+    LAST = 33; SIZE[LAST] = 4; TITLE[LAST] = "the end field"
+    HEAT = 34; SIZE[HEAT] = 5; TITLE[HEAT] = "an MR4 field"
 
     POW[0] = 1
     for (k = 1; k <= 24; k++)
@@ -70,6 +70,31 @@ function may_follow(last, tag) {
     if (last < ENTRY && !(last in ENDS))
         return tag == last + 1
     return tag == ENTRY || tag == LAST || tag == HEAT || tag > last && (tag in GROUP) && GROUP[tag] == tag
+}
+
+# The refusal of a tag that may not come behind one with tag `last`: 17, unknown; 18, a card tag already seen or behind a higher one; 19, too early. What was read
+# rises up to the entries, so one tag tells.
+function tag_fault(last, tag) {
+    return !(tag in SIZE) ? 17 : (tag in GROUP) && tag <= last ? 18 : 19
+}
+
+# The tag that is expected where `tag` comes and the card's tags in `seen` were read.
+function tag_expected(seen, tag,    k) {
+    for (k = 1; k <= TOP; k++)
+        if (!(k in seen) && must_come(k, seen, tag))
+            return k
+    return LAST
+}
+
+# Whether the card must have tag k there: one from 1 on, or of a group of several once one of them comes.
+function must_come(k, seen, tag) {
+    if (!(k in GROUP) || GROUP[k] == 1)
+        return (k in GROUP)
+    return !(GROUP[k] in ENDS) && ((GROUP[k] in seen) || (tag in GROUP) && GROUP[tag] == GROUP[k])
+}
+
+function tag_text(tag) {
+    return (tag in TITLE) ? TITLE[tag] " (tag " tag ")" : "tag " tag ((tag in NAME) ? " (" NAME[tag] ")" : "")
 }
 
 # How pins are read behind a card that ends with this tag, where without it they were read as `mode`: of "one" part that never sleeps; of one that may, by

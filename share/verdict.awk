@@ -60,10 +60,14 @@ function explain_refusal(number, rule, offset, cycle,    b, n, mode, due) {
     read_card(offset)
     heats = offset > size ? int((offset - size - (3 + SIZE[ENTRY]) * entries) / (3 + SIZE[HEAT])) : 0
     mode = mode_before(number == 12 ? offset - 3 - SIZE[LAST] : offset)
+    n = read_bytes(offset, 3 + SIZE[ENTRY], b)
+    if (number >= 17 && number <= 19) {
+        explain_tag(number, rule, offset, b, n, mode)
+        return
+    }
     if (rule > 0)
         explain_rule(rule, offset)
     explain_mode(number, mode)
-    n = read_bytes(offset, 3 + SIZE[ENTRY], b)
     due = card_tag(offset, b[1])
     print "where  " place(number, due, b[1]) sprintf(", at byte %.0f: ", offset) standing(b, n, mode)
     if (due)
@@ -86,8 +90,9 @@ function ranged(number, due, p, mode,    v) {
     return TAG["mr" v["ma"]]
 }
 
-# Takes the card's fields before the offset: `size` bytes of them, the last one with tag `last`, their text in value, the first byte of each value in byte, and how
-# pins are read behind them. Behind the card, and before the offset, stand as many entries as there are lines, and `heats` temperature fields.
+# Takes the card's fields before the offset: `size` bytes of them, the last one with tag `last`, their offsets by tag in begins, their text in value, the first byte
+# of each value in byte, and how pins are read behind them. Behind the card, and before the offset, stand as many entries as there are lines, and `heats`
+# temperature fields.
 function read_card(offset,    b, field, k) {
     read_bytes(0, 8 * TOP, b)
     size = last = 0
@@ -96,6 +101,7 @@ function read_card(offset,    b, field, k) {
         last = b[size + 1]
         for (k = 1; k <= 3 + SIZE[last]; k++)
             field[k] = b[size + k]
+        begins[last] = size
         value[NAME[last]] = field_text(field)
         byte[NAME[last]] = field[4]
         size += 3 + SIZE[last]
@@ -207,12 +213,16 @@ function place(number, due, first) {
     if (first == LAST)
         return "the end field"
     if (first == HEAT)
-        return sprintf("MR4 %.0f of the trace, counted from 1", heats + 1)
+        return heat_number(heats + 1) ", counted from 1"
     return (first == ENTRY ? "" : "in the place of ") entry_number(entries + 1) ", counted from 1"
 }
 
 function entry_number(k) {
     return sprintf("entry %.0f of the trace", k)
+}
+
+function heat_number(k) {
+    return sprintf("MR4 %.0f of the trace", k)
 }
 
 function standing(b, n, mode) {

@@ -1,4 +1,4 @@
-"""Document 01 with requests One, Two, Nine and Eleven of document 02 in Python, over the list of entries and cycle by cycle: slow and plain, written from the
+"""Document 01 with requests One, Two, Three, Nine and Eleven of document 02 in Python, over the list of entries and cycle by cycle: slow and plain, written from the
 documents alone. It knows nothing of the Rattle code."""
 
 TIMINGS = ["tRCD", "tRPpb", "tRPab", "tRAS", "tRRD", "tFAW", "tRTP", "tWR", "tWTR", "tDQSCK", "tRFCab", "tRFCpb", "tMRR", "tMRW"]
@@ -495,27 +495,48 @@ def may_come(last):
     return {18: (19, 23, 25, 26), 22: (23, 25, 26), 23: (25, 26), 25: (26,)}.get(last, ()) + (32, 33, 34)
 
 
+def wrong_tag(tags, got):
+    """The number of a tag that may not come behind those that were read, and the tag expected there."""
+    required = list(range(1, 19))
+    if {19, 20, 21, 22} & {*tags, got}:
+        required += [19, 20, 21, 22]
+    missing = [t for t in required if t not in tags]
+    expected = min(missing) if missing else 33
+    if got not in SIZES:
+        return 17, expected
+    if got < 32 and (got in tags or any(t > got for t in tags)):
+        return 18, expected
+    return 19, expected
+
+
+def misformed(data, at, tags):
+    """What is wrong about the tag, length and room of the field at this place, behind those that were read: (number, rule), or None."""
+    if at == len(data):
+        return 1, 0
+    got = data[at]
+    if got not in may_come(tags[-1] if tags else 0):
+        return wrong_tag(tags, got)
+    if len(data) < at + 3:
+        return 1, 0
+    size = data[at + 1] * 256 + data[at + 2]
+    if size != SIZES[got]:
+        return 3, 0
+    return (1, 0) if len(data) < at + 3 + size else None
+
+
 def judge(data):
     """The lines of a file, the verdict last."""
-    lines, at, last, card, run = [], 0, 0, Card(), None
+    lines, at, tags, card, run = [], 0, [], Card(), None
 
-    def refused(n, rule=0, cycle=0, offset=None):
-        return lines + ["refused %d %d %d %d" % (n, rule, at if offset is None else offset, cycle)]
+    def refused(n, rule=0, cycle=0):
+        return lines + ["refused %d %d %d %d" % (n, rule, at, cycle)]
 
     while True:
-        if at == len(data):
-            return refused(1)
-        got = data[at]
-        if got not in may_come(last):
-            return refused(2)
-        if len(data) < at + 3:
-            return refused(1)
-        size = data[at + 1] * 256 + data[at + 2]
-        if size != SIZES[got]:
-            return refused(3)
-        value = data[at + 3:at + 3 + size]
-        if len(value) < size:
-            return refused(1)
+        bad = misformed(data, at, tags)
+        if bad:
+            return refused(*bad)
+        got, behind = data[at], at + 3 + SIZES[data[at]]
+        value = data[at + 3:behind]
         if got < 32:
             if not card.take(got, value):
                 return refused(4)
@@ -523,20 +544,15 @@ def judge(data):
             run = Judge(card)
         if got == 32:
             bad = run.entry(int.from_bytes(value[:4], "big"), int.from_bytes(value[4:], "big"))
-            if bad:
-                return refused(*bad)
-            lines.append(run.line())
         elif got == 34:
             bad = run.temperature(int.from_bytes(value[:4], "big"), value[4])
-            if bad:
-                return refused(*bad)
         elif got == 33:
-            e = int.from_bytes(value, "big")
-            bad = run.end(e)
-            if bad:
-                return refused(*bad)
-            behind = at + 3 + size
-            if behind < len(data):
-                return refused(12, offset=behind)
-            return lines + [" ".join(["accepted"] + [str(n) for n in run.counts()])]
-        at, last = at + 3 + size, got
+            bad = run.end(int.from_bytes(value, "big"))
+        if bad:
+            return refused(*bad)
+        at = behind
+        if got == 33:
+            return refused(12) if at < len(data) else lines + [" ".join(["accepted"] + [str(n) for n in run.counts()])]
+        if got == 32:
+            lines.append(run.line())
+        tags.append(got)

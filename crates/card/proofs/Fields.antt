@@ -1,7 +1,7 @@
 -- The card that some fields of a file make: none make the blank card, and one more field makes what reading its value gives.
 use Prim.Native.Nat.{ℕ, _+_, _-_, _<_}
 use mathlib.Core.Path.{_≡_, refl, ap, sym, _∙_}
-use mathlib.Core.Bool.{Bool, true, false, cond, _||_}
+use mathlib.Core.Bool.{Bool, true, false, cond, _||_, _&&_}
 use mathlib.Core.List.{List, [], _∷_, _++_}
 use mathlib.Core.Option.{Option, none, some}
 use mathlib.Core.Logic.{⊎-elim}
@@ -19,7 +19,7 @@ use Rattle.rules.proofs.Onward.{onward, at-each}
 use Rattle.rules.proofs.Tests.{eq-cases}
 use Rattle.rules.proofs.Rounding.{within-both}
 use Rattle.card.specs.Values.{timing, timingIn, mr1If, cardOf}
-use Rattle.card.specs.Reading.{ofCard, good, put, readRefusal, numberOf, unlessRefused, answer, readOf, blankCard}
+use Rattle.card.specs.Reading.{good, put, readRefusal, numberOf, ruleOf, unlessRefused, answer, readOf, blankCard}
 use Rattle.card.specs.declared.Card.{Card}
 use Rattle.card.proofs.Lengths.{is-within}
 
@@ -212,18 +212,18 @@ pub good-field : (card : Card) (fs : List form.Field) (f : form.Field) → Holds
 unfolding good form.fieldGood form.gapGood cardOf form.cardOf
 good-field card fs f h = rw (ap (λ (z : paper.Card). z .sleeps) (h .reads), ap (λ (z : paper.Card). z .period) (h .reads))
 
--- reading a field of a card's tag and of its length: in range or refused
-pub read-field : (card : Card) (fs : List form.Field) (f : form.Field) → Holds card fs
-    → ofCard (f .tag) ≡ true → form.lengthGood (f .tag) (length (f .value)) ≡ true
-    → readOf card (f .tag) (f .value)
-    ≡ cond (form.fieldGood fs f) (answer 0 (put card (f .tag) (form.number (f .value)) (form.timingOf (f .value)))) (answer 4 card)
+-- reading a field whose tag may come, of its length: in range or refused
+pub read-field : (card : Card) (b : Bool) (last : ℕ) (fs : List form.Field) (f : form.Field) → Holds card fs
+    → (form.ofCard (f .tag) && form.mayFollow b last (f .tag)) ≡ true → form.lengthGood (f .tag) (length (f .value)) ≡ true
+    → readOf card b last (f .tag) (f .value)
+    ≡ cond (form.fieldGood fs f) (answer 0 0 (put card (f .tag) (form.number (f .value)) (form.timingOf (f .value)))) (answer 4 0 card)
 unfolding readOf
-read-field card fs f h tag size = go (form.fieldGood fs f) (good-field card fs f h)
+read-field card b last fs f h tag size = go (form.fieldGood fs f) (good-field card fs f h)
   where
     next : Card
     next = put card (f .tag) (form.number (f .value)) (form.timingOf (f .value))
 
-    go : (b : Bool) → good (card .sleeps) (card .period) (f .tag) (form.number (f .value)) (form.timingOf (f .value)) ≡ b
-        → answer (numberOf (readRefusal card (f .tag) (f .value))) (unlessRefused (readRefusal card (f .tag) (f .value)) card next) ≡ cond b (answer 0 next) (answer 4 card)
-    go true e = unfold readRefusal firstOf orElse unless numberOf unlessRefused in rw (tag, size, e)
-    go false e = unfold readRefusal firstOf orElse unless refusal numberOf unlessRefused in rw (tag, size, e)
+    go : (x : Bool) → good (card .sleeps) (card .period) (f .tag) (form.number (f .value)) (form.timingOf (f .value)) ≡ x
+        → (let y = readRefusal card b last (f .tag) (f .value) in answer (numberOf y) (ruleOf y) (unlessRefused y card next)) ≡ cond x (answer 0 0 next) (answer 4 0 card)
+    go true e = unfold readRefusal firstOf orElse unless numberOf ruleOf unlessRefused in rw (tag, size, e)
+    go false e = unfold readRefusal firstOf orElse unless refusal numberOf ruleOf unlessRefused in rw (tag, size, e)

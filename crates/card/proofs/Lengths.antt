@@ -1,18 +1,20 @@
 -- The lengths that the code goes by are those that the rules list: a computed test each way.
 use Prim.Native.Nat.{ℕ, _≤_, _<_}
 use mathlib.Core.Path.{_≡_, refl, sym}
-use mathlib.Core.Bool.{Bool, true, false, cond, not, _&&_, _||_, or-false}
+use mathlib.Core.Bool.{Bool, true, false, cond, not, _&&_, _||_}
+use mathlib.Core.Logic.{_⊎_, inl, inr}
 use mathlib.Core.List.{List, [], _∷_}
 use native.Mathlib.Omega.{arith}
 use lib.Dec.{leb, ltb, eqb}
-use borrow.Author.Tests.{leb-true, le-leb, eqb-true, ne-eqb}
+use borrow.Author.Tests.{leb-true, le-leb, eqb-true}
 use Rattle.rules.specs.Lists.{all}
 use Rattle.rules.specs.Ranges.{within}
-use Rattle.rules.specs.Form.{Listed, _of_, lengths, isListed, lengthGood}
+use Rattle.rules.specs.Form.{Listed, _upTo_, groups, inGroup, inGroups, ofCard, _of_, lengths, isListed, lengthGood}
 use Rattle.rules.proofs.Onward.{onward, at-each}
 use Rattle.rules.proofs.Tests.{both-true}
-use Rattle.rules.proofs.Rounding.{within-both}
-use Rattle.card.specs.Reading.{ofCard, sizeOf}
+use Rattle.rules.proofs.Tags.{within-of}
+use Rattle.rules.proofs.CardTags.{card-bounds}
+use Rattle.card.specs.Reading.{sizeOf}
 
 differ : {A : Type 0} → Path Bool false true → A
 differ e = let z : _≡_ {A = ℕ} 0 1 = cc in absurd (omega arith)
@@ -29,15 +31,14 @@ is-within a b x low high = rw (le-leb a x low, le-leb x b high)
 above-four : (t : ℕ) → 1 ≤ t → (t ≡ 1 → ⊥) → (t ≡ 2 → ⊥) → (t ≡ 3 → ⊥) → (t ≡ 4 → ⊥) → 5 ≤ t
 above-four t low a b c d = omega arith
 
-below-start : (t : ℕ) → t ≤ 23 → (t ≡ 23 → ⊥) → t ≤ 22
-below-start t high s = omega arith
+below-start : (t : ℕ) → (t ≡ 23 → ⊥) → (t ≡ 25 → ⊥) → (t ≡ 26 → ⊥) → (t ≤ 23) ⊎ ((t ≡ 25) ⊎ (t ≡ 26)) → t ≤ 22
+below-start t s f g (inl q) = omega (arith, q, s)
+below-start t s f g (inr (inl q)) = absurd (f q)
+below-start t s f g (inr (inr q)) = absurd (g q)
 
 -- a card's tag that is none of a number's is a timing's
 pub a-timing : (t : ℕ) → ofCard t ≡ true → (t ≡ 1 → ⊥) → (t ≡ 2 → ⊥) → (t ≡ 3 → ⊥) → (t ≡ 4 → ⊥) → (t ≡ 23 → ⊥) → (t ≡ 25 → ⊥) → (t ≡ 26 → ⊥) → (5 ≤ t) × (t ≤ 22)
-unfolding ofCard
-a-timing t e a b c d s f g =
-    let (low, high) = within-both 1 23 t (rw (ne-eqb t 25 f, ne-eqb t 26 g, or-false (within 1 23 t), or-false (within 1 23 t)) at e) in
-    (above-four t low a b c d, below-start t high s)
+a-timing t e a b c d s f g = let p = card-bounds t (within-of t e) in (above-four t (p .0) a b c d, below-start t s f g (p .1))
 
 -- what holds of each row holds of a tag and a length that are listed
 pub listed-has : (p : ℕ → ℕ → Bool) (xs : List Listed) (t l : ℕ)
@@ -73,7 +74,7 @@ at-most p b t l rows e h = leb-true l b (rw h at (listed-has (λ k s. cond (p k)
 
 -- a card's value, and one that is no timing
 pub card-length : (t l : ℕ) → ofCard t ≡ true → lengthGood t l ≡ true → (l ≤ 5) × (within 5 22 t ≡ false → l ≤ 4)
-unfolding lengths _of_ all ofCard within
+unfolding lengths _of_ all ofCard inGroups inGroup groups _upTo_ within
 card-length t l c e = (
   at-most ofCard 5 t l refl e c,
   λ n. at-most (λ k. ofCard k && not (within 5 22 k)) 4 t l refl e (rw (c, n)),

@@ -3,7 +3,10 @@ use mathlib.Core.Path.{_≡_, refl, ap, sym, _∙_}
 use Rattle.rules.specs.Units as paper
 use Rattle.rules.proofs.Determined.{Promise, Determined, determined, fact-of}
 use Rattle.card.specs.Values.{clocksOf}
+use Rattle.rules.specs.Checks.{Refusal, refusal}
+use Rattle.card.specs.Tags.{wrongOf}
 use Rattle.card.specs.declared.Delays.{Delays}
+use Rattle.card.specs.declared.Wrong.{Wrong}
 use Rattle.card.proofs.Told.{read-is}
 use Rattle.card.proofs.ranges.in_range as in-range
 use Rattle.card.proofs.registers.latency_of as latency-of
@@ -15,6 +18,7 @@ use Rattle.card.proofs.timings.interval_at as interval-at
 use Rattle.card.proofs.heat.mr4_good as mr4-good
 use Rattle.card.proofs.units.greater as greater
 use Rattle.card.proofs.tags.may_come as may-come
+use Rattle.card.proofs.tags.wrong_tag as wrong-tag
 use Rattle.card.proofs.benched.bench as bench
 use Rattle.card.proofs.values.blank as blank
 use Rattle.card.proofs.values.length_good as length-good
@@ -131,10 +135,21 @@ read-value-says w = read-value.clauses (w .𝓤) (w .H) (w .𝓖 .A) (w .𝓜 .m
 
 pub read-value-determined : Determined read-value.ended read-value-says
 read-value-determined =
-    determined read-value.ended read-value-says (λ κs a r e. fact-of _) (λ κs a r r′ ws ws′ p p′. (read-is _ _ _ r p ∙ sym (read-is _ _ _ r′ p′), refl))
+    determined read-value.ended read-value-says (λ κs a r e. fact-of _) (λ κs a r r′ ws ws′ p p′. (read-is _ _ _ _ _ r p ∙ sym (read-is _ _ _ _ _ r′ p′), refl))
 
 abbrev may-come-says : Promise may-come.ended
 may-come-says w = may-come.clauses (w .𝓤) (w .H) (w .𝓖 .A) (w .𝓜 .mem) (w .𝓡 .run)
 
 pub may-come-determined : Determined may-come.ended may-come-says
 may-come-determined = determined may-come.ended may-come-says (λ κs a r e. fact-of _) (λ κs a r r′ ws ws′ p p′. (p ∙ sym p′, refl))
+
+-- what is wrong with a tag, with the same two numbers, is one
+wrong-tells : (v w : Wrong) → wrongOf v ≡ wrongOf w → v ≡ w
+unfolding wrongOf refusal
+wrong-tells v w q = λ i. record { number = ap (λ (x : Refusal). x .number) q i; expected = ap (λ (x : Refusal). x .rule) q i }
+
+abbrev wrong-tag-says : Promise wrong-tag.ended
+wrong-tag-says w = wrong-tag.clauses (w .𝓤) (w .H) (w .𝓖 .A) (w .𝓜 .mem) (w .𝓡 .run)
+
+pub wrong-tag-determined : Determined wrong-tag.ended wrong-tag-says
+wrong-tag-determined = determined wrong-tag.ended wrong-tag-says (λ κs a r e. fact-of _) (λ κs a r r′ ws ws′ p p′. (wrong-tells r r′ (p ∙ sym p′), refl))

@@ -1,4 +1,4 @@
--- What the value of a card's field makes of a card: refusal 2 (tag), 3 (length), 4 (range), or the card with the value in it.
+-- What the next field of a card makes of it: refused 17, 18 or 19 (tag), 3 (length), 4 (range), or the card with the value in it.
 use Prim.Native.Nat.{ℕ, _-_}
 use mathlib.Core.Path.{_≡_}
 use mathlib.Core.Bool.{Bool, false, cond, not, _&&_, _||_}
@@ -10,14 +10,10 @@ use Rattle.rules.specs.Card as paper
 use Rattle.rules.specs.Registers.{mr2Good}
 use Rattle.rules.specs.Ranges.{within, periodGood, groupsGood, trefiGood, timingGood, startGood, raiseGood}
 use Rattle.rules.specs.Folds.{firstOf}
-use Rattle.rules.specs.Checks.{Refusal, unless}
-use Rattle.rules.specs.Form.{number, timingOf, lengthGood}
+use Rattle.rules.specs.Checks.{Refusal, refusal, unless}
+use Rattle.rules.specs.Form.{mayFollow, ofCard, wrongAfter, number, timingOf, lengthGood}
 use Rattle.card.specs.declared.Card.{Card}
 use Rattle.card.specs.declared.Read.{Read}
-
--- a tag of the card
-unfoldable pub ofCard : (tag : ℕ) → Bool
-ofCard t = within 1 23 t || eqb t 25 || eqb t 26
 
 -- the listed length of a tag; 0 where there is no such tag
 unfoldable pub sizeOf : ℕ → ℕ
@@ -53,40 +49,49 @@ put c t x y = record {
   raise = cond (eqb t 26) x (c .raise);
 }
 
--- what is refused, by document 01's numbers: the tag, the length, the range
-unfoldable pub readRefusal : Card → (tag : ℕ) → List ℕ → Option Refusal
-readRefusal c t v =
-    firstOf (unless (ofCard t) 2 ∷ unless (lengthGood t (length v)) 3 ∷ unless (good (c .sleeps) (c .period) t (number v) (timingOf v)) 4 ∷ [])
+-- what is refused, by the documents' numbers: the tag, where it is none of the card's or may not come, the length, the range
+unfoldable pub readRefusal : Card → (begun : Bool) → (last tag : ℕ) → List ℕ → Option Refusal
+readRefusal c b last t v =
+    cond (ofCard t && mayFollow b last t)
+    (firstOf (unless (lengthGood t (length v)) 3 ∷ unless (good (c .sleeps) (c .period) t (number v) (timingOf v)) 4 ∷ []))
+    (some (wrongAfter b last (c .sleeps) t))
 
--- the numbers that the code's one stands for; 0 is none
-unfoldable pub refusalOf : ℕ → Option Refusal
-refusalOf k = unless (eqb k 0) k
+-- the numbers that the code's two stand for; 0 is none
+unfoldable pub refusalOf : (number rule : ℕ) → Option Refusal
+refusalOf k q = cond (eqb k 0) none (some (refusal k q 0))
 
 -- and back
 unfoldable pub numberOf : Option Refusal → ℕ
 numberOf none = 0
 numberOf (some x) = x .number
 
+unfoldable pub ruleOf : Option Refusal → ℕ
+ruleOf none = 0
+ruleOf (some x) = x .rule
+
 -- the old one, where it is refused
 unfoldable pub unlessRefused : {A : Type 0} → Option Refusal → A → A → A
 unlessRefused none old new = new
 unlessRefused (some x) old new = old
 
--- this refusal, or none, is told, and the card then is the one with the value in it, or on a refusal the old one
-pub record ReadAs (c : Card) (t : ℕ) (v : List ℕ) (r : Read) : Type 0 where
-  pub told : refusalOf (r .refusal) ≡ readRefusal c t v
-  pub card : r .card ≡ unlessRefused (readRefusal c t v) c (put c t (number v) (timingOf v))
+-- this refusal, or none, is told, with rule 0 then, and the card is the one with the value in it, or on a refusal the old one
+pub record ReadAs (c : Card) (b : Bool) (last t : ℕ) (v : List ℕ) (r : Read) : Type 0 where
+  pub told : refusalOf (r .refusal) (r .rule) ≡ readRefusal c b last t v
+  pub rule : r .rule ≡ ruleOf (readRefusal c b last t v)
+  pub card : r .card ≡ unlessRefused (readRefusal c b last t v) c (put c t (number v) (timingOf v))
 
-abbrev pub answer : ℕ → Card → Read
-answer n c = record { refusal = n; card = c }
+abbrev pub answer : (number rule : ℕ) → Card → Read
+answer k q c = record { refusal = k; rule = q; card = c }
 
 -- the answer so told (proofs/Told, `read-is`)
-unfoldable pub readOf : Card → (tag : ℕ) → List ℕ → Read
-readOf c t v = answer (numberOf (readRefusal c t v)) (unlessRefused (readRefusal c t v) c (put c t (number v) (timingOf v)))
+unfoldable pub readOf : Card → (begun : Bool) → (last tag : ℕ) → List ℕ → Read
+readOf c b last t v =
+    let x = readRefusal c b last t v in
+    answer (numberOf x) (ruleOf x) (unlessRefused x c (put c t (number v) (timingOf v)))
 
 -- a value of its tag's length, by its numbers
 unfoldable pub taken : Card → (tag x : ℕ) → paper.Timing → Read
-taken c t x y = cond (good (c .sleeps) (c .period) t x y) (answer 0 (put c t x y)) (answer 4 c)
+taken c t x y = cond (good (c .sleeps) (c .period) t x y) (answer 0 0 (put c t x y)) (answer 4 0 c)
 
 unfoldable pub blankCard : Card
 blankCard = record {

@@ -16,6 +16,7 @@ pub use registers::mr2_good;
 pub use registers::mrw_value_good;
 pub use registers::nwr_of;
 pub use tags::may_come;
+pub use tags::wrong_tag;
 pub use timings::delays_at;
 pub use timings::interval_at;
 pub use units::greater;
@@ -82,8 +83,16 @@ pub struct Latency {
     pub wl: u8,
 }
 
-// What the value of a card's field makes of a card: 0 and the card with the value in it, or a refusal's number and the card as it was.
+// What refuses a tag: the number, and the tag that is expected there.
+pub struct Wrong {
+    pub number: u8,
+    pub expected: u8,
+}
+
+// What a field makes of a card: 0 and the card with the value in it, or a refusal's number and the card as it was. `rule`: the tag that is expected, where the
+// field's own is refused; else 0.
 pub struct Read {
     pub refusal: u8,
+    pub rule: u8,
     pub card: Card,
 }

@@ -9,7 +9,9 @@ ghost use Rattle.card.specs.Reading as reading;
 use crate::Card;
 use crate::Read;
 use crate::ranges::value_good;
+use crate::tags::may_come;
 use crate::tags::of_card;
+use crate::tags::wrong_tag;
 
 // The listed length of a tag; 0 where there is no such tag.
 fn listed(tag: u8) -> usize
@@ -94,7 +96,7 @@ fn put_timing(card: Card, tag: u8, x: u32, floor: u8) -> Card
 }
 
 fn put(card: Card, tag: u8, x: u32, floor: u8) -> Card
-    requires { ⌜ (reading.ofCard tag ≡ true) × (reading.good (card .sleeps) (card .period) tag x (timing x floor) ≡ true) ⌝ }
+    requires { ⌜ (form.ofCard tag ≡ true) × (reading.good (card .sleeps) (card .period) tag x (timing x floor) ≡ true) ⌝ }
     ensures { λ r. ⌜ r ≡ reading.put card tag x (timing x floor) ⌝ }
 {
     let mut next = card;
@@ -132,34 +134,40 @@ fn put(card: Card, tag: u8, x: u32, floor: u8) -> Card
 }
 
 fn taken(card: Card, tag: u8, x: u32, floor: u8) -> Read
-    requires { ⌜ reading.ofCard tag ≡ true ⌝ }
+    requires { ⌜ form.ofCard tag ≡ true ⌝ }
     ensures { λ r. ⌜ r ≡ reading.taken card tag x (timing x floor) ⌝ }
 {
     if value_good(card.sleeps, card.period, tag, x, floor) {
         let next = put(card, tag, x, floor);
         return Read {
             refusal: 0,
+            rule: 0,
             card: next,
         };
     }
     Read {
         refusal: 4,
+        rule: 0,
         card: card,
     }
 }
 
-pub fn read_value(card: Card, tag: u8, value: &[u8]) -> Read
-    ensures { λ r. ⌜ reading.ReadAs card tag (now (value .entry)) r ⌝ }
+// The next field of a card, of which this much was read: behind the field with tag `last`, and if `begun` behind an entry.
+pub fn read_value(card: Card, begun: bool, last: u8, tag: u8, value: &[u8]) -> Read
+    ensures { λ r. ⌜ reading.ReadAs card begun last tag (now (value .entry)) r ⌝ }
 {
-    if !of_card(tag) {
+    if !(of_card(tag) & may_come(begun, last, tag)) {
+        let wrong = wrong_tag(begun, last, card.sleeps, tag);
         return Read {
-            refusal: 2,
+            refusal: wrong.number,
+            rule: wrong.expected,
             card: card,
         };
     }
     if !length_good(tag, value.len()) {
         return Read {
             refusal: 3,
+            rule: 0,
             card: card,
         };
     }

@@ -20,7 +20,7 @@ use Rattle.chunks.specs.declared.fields.Move.{Move}
 use Rattle.chunks.specs.declared.fields.Move.the-variants.{On, Wait, End}
 use Rattle.chunks.specs.declared.fields.Took.{Took}
 use Rattle.chunks.specs.declared.heads.Head.the-variants.{Whole}
-use Rattle.chunks.specs.Took.{tookAs, refusedHere, refusedBy, cardAfter, cardTook, entryAfter, entryRefused, entryTook, endAfter, endTook, fieldTook, headTook, behindTook, newest, headAt, tookOf}
+use Rattle.chunks.specs.Took.{tookAs, refusedHere, refusedBy, refusedTag, cardAfter, cardTook, entryAfter, entryRefused, entryTook, endAfter, endTook, fieldTook, headTook, behindTook, readIn, headAt, tookOf}
 use Rattle.chunks.specs.Heard.{fieldLine, headLine, lineOf}
 use Rattle.chunks.specs.Parts.{fieldIn, headAs, NoneHere}
 use Rattle.chunks.proofs.Fronts.{Fronted, front}
@@ -56,16 +56,16 @@ field-how st f m g h =
     (refused-how (entryRefused st f) (tookAs (On (form.sizeOf f)) (entryAfter st f)) st m g h)
     (either-how (eqb (f .tag) 33) (endTook st f) (cardTook st f) m
     (refused-how (lent.closeRefusal (lentOf (st .rec)) (form.endOf f)) (tookAs (On (form.sizeOf f)) (endAfter st f)) st m g h)
-    (refused-how (readRefusal (st .rec .card) (f .tag) (f .value)) (tookAs (On (form.sizeOf f)) (cardAfter st f)) st m g h))
+    (refused-how (readRefusal (st .rec .card) (st .rec .last .seen) (st .tag) (f .tag) (f .value)) (tookAs (On (form.sizeOf f)) (cardAfter st f)) st m g h))
 
 field-on : (st : State) (f : form.Field) (n : ℕ) → fieldTook st f .how ≡ On n → form.sizeOf f ≡ n
 field-on st f n = field-how st f (On n) same-on (λ v e. end-on e)
 
 head-on : (st : State) (h : form.Head) (n : ℕ) → headTook st h .how ≡ On n → headAs h ≡ Whole n
-unfolding headTook headAs refusedBy
+unfolding headTook headAs refusedBy refusedTag
 head-on st (form.whole f rest) n e = rw (field-on st f n e)
 head-on st form.cut n e = wait-on e
-head-on st form.badTag n e = end-on e
+head-on st (form.badTag x) n e = end-on e
 head-on st form.badLength n e = end-on e
 
 pub behind-on : {A : Type 0} (st : State) (bs : List ℕ) (n : ℕ) → behindTook st bs .how ≡ On n → A
@@ -84,11 +84,11 @@ took-on st bs n = go (eqb (st .tag) 33) refl
 
 pub record OnField (st : State) (bs : List ℕ) (n : ℕ) : Type 0 where
   pub in-time : st .tag ≡ 33 → ⊥
-  pub fronted : Fronted (st .rec .last .seen) (newest (st .tag)) bs n
+  pub fronted : Fronted (st .rec .last .seen) (readIn st) bs n
 
 pub on-field : (st : State) (bs : List ℕ) (n : ℕ) → tookOf st bs .how ≡ On n → OnField st bs n
 unfolding headAt
-on-field st bs n e = let t = took-on st bs n e in record { in-time = t .0; fronted = front (st .rec .last .seen) (newest (st .tag)) bs n (t .1) }
+on-field st bs n e = let t = took-on st bs n e in record { in-time = t .0; fronted = front (st .rec .last .seen) (readIn st) bs n (t .1) }
 
 pub taken-size : (st : State) (bs : List ℕ) (n : ℕ) → tookOf st bs .how ≡ On n → (3 ≤ n) × (n ≤ length bs)
 taken-size st bs n e = let f = on-field st bs n e .fronted in (f .least, f .long)

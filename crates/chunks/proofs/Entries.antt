@@ -21,7 +21,7 @@ use Rattle.bank.specs.declared.Record.{Record}
 use Rattle.bank.specs.Values.{lentOf}
 use Rattle.step.specs.Runs.{entryAt, takes}
 use Rattle.chunks.specs.declared.State.{State}
-use Rattle.chunks.specs.Took.{newest}
+use Rattle.chunks.specs.Took.{readIn}
 use Rattle.chunks.specs.Parts.{fieldIn, NotTaken, NoneHere}
 use Rattle.chunks.proofs.Sizes.{entry-size}
 use Rattle.chunks.proofs.Fronts.{Fronted, head-is, front, come-as}
@@ -96,7 +96,7 @@ is-front : (bs : List ℕ) → 10 ≤ length bs → getD bs 0 0 ≡ 32 → 256 *
 unfolding frontOf isEntry
 is-front bs l t n = rw (le-leb 10 (length bs) l, t, eq-eqb (getD bs 1 0) 0 (omega arith), eq-eqb (getD bs 2 0) 7 (omega arith))
 
-module _ (st : State) (bs : List ℕ) (n : ℕ) (f : Fronted (st .rec .last .seen) (newest (st .tag)) bs n) (tag : getD (take n bs) 0 0 ≡ 32) where
+module _ (st : State) (bs : List ℕ) (n : ℕ) (f : Fronted (st .rec .last .seen) (readIn st) bs n) (tag : getD (take n bs) 0 0 ≡ 32) where
   tag-here : getD bs 0 0 ≡ 32
   tag-here = let l = f .least in sym (getD-take n bs 0 0 (omega arith)) ∙ tag
 
@@ -113,5 +113,5 @@ module _ (st : State) (bs : List ℕ) (n : ℕ) (f : Fronted (st .rec .last .see
       record {
         size = length-take-le n bs (f .long) ∙ ten;
         whole = rw same (is-front bs l tag-here (omega arith));
-        refused = rw same (gone (sym (come-as (st .rec .last .seen) (st .tag) 32) ∙ rw tag-here at (f .tag)));
+        refused = rw same (gone (sym (come-as (st .rec .last .seen) (st .tag) (st .rec .card .sleeps) 32) ∙ rw tag-here at (f .tag)));
       }

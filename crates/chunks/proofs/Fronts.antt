@@ -1,6 +1,6 @@
 -- The head of some bytes, by how many they are, their first and the two behind it; and the field that a whole head has.
 use Prim.Native.Nat.{ℕ, suc, _+_, _*_, _-_, _≤_, _<_}
-use mathlib.Core.Path.{_≡_, refl, _∙_}
+use mathlib.Core.Path.{_≡_, refl, ap, _∙_}
 use mathlib.Core.Bool.{Bool, true, false, cond, not, _||_}
 use mathlib.Core.List.{List, [], _∷_}
 use mathlib.Core.Logic.{_⊎_, inl, inr, ⊎-elim}
@@ -9,17 +9,38 @@ use lib.Dec.{leb, ltb, eqb}
 use lib.ListN.{length, getD, take, drop}
 use lib.Seq.{length-take-le}
 use borrow.Author.Tests.{lt-ltb, le-ltb, ne-eqb}
+use Rattle.rules.specs.Checks.{Refusal, refusal}
 use Rattle.rules.specs.Form as form
 use Rattle.rules.proofs.Tests.{le-cases, eq-cases}
+use Rattle.card.specs.Tags.{wrongOf}
+use Rattle.card.specs.declared.Wrong.{Wrong}
 use Rattle.chunks.specs.declared.heads.Head.{Head}
 use Rattle.chunks.specs.declared.heads.Head.the-variants.{Whole, Cut, BadTag, BadLength}
-use Rattle.chunks.specs.Took.{newest}
-use Rattle.chunks.specs.Parts.{fieldIn, headAs}
+use Rattle.chunks.specs.Took.{tagged, newest}
+use Rattle.chunks.specs.Parts.{fieldIn, wrongIn, headAs}
 
 -- ---- where an entry may come
-pub come-as : (b : Bool) (last tag : ℕ) → form.mayCome b (newest last) tag ≡ form.mayFollow b last tag
-unfolding form.mayCome form.lastTag newest
-come-as b last tag = refl
+pub come-as : (b : Bool) (last : ℕ) (s : Bool) (tag : ℕ) → form.mayCome b (newest last s) tag ≡ form.mayFollow b last tag
+unfolding form.mayCome form.lastTag newest tagged
+come-as b last s tag = refl
+
+-- what is wrong with a tag behind these fields is so by the newest one's tag and by whether 19 was read: behind tag 19 itself 20 is expected anyhow
+pub wrong-as : (b : Bool) (last : ℕ) (s : Bool) (tag : ℕ) → form.wrongTag b (newest last s) tag ≡ form.wrongAfter b last s tag
+unfolding form.wrongTag form.wrongAfter form.lastTag newest tagged form._upTo_
+wrong-as b last s tag = ap (λ (e : ℕ). refusal (form.wrongNumber b last tag) e 0) (expected-as (eq-cases last 19))
+  where
+    expected-as : ((last ≡ 19) × (eqb last 19 ≡ true)) ⊎ ((last ≡ 19 → ⊥) × (eqb last 19 ≡ false)) →
+        form.expectedAfter last (form.has 19 (newest last s)) tag ≡ form.expectedAfter last s tag
+    expected-as (inl p) = unfold form.expectedAfter form.endsGroup form.groups form._upTo_ in rw (p .0)
+    expected-as (inr p) = ap (λ (x : Bool). form.expectedAfter last x tag) (unfold form.has newest tagged form._upTo_ in rw (p .1) (read s))
+      where
+        read : (s : Bool) → form.has 19 (cond s (tagged 19 ∷ []) []) ≡ s
+        read true = unfold form.has tagged in refl
+        read false = unfold form.has in refl
+
+pub wrong-told : (w : Wrong) → wrongIn (wrongOf w) ≡ w
+unfolding wrongIn wrongOf refusal
+wrong-told w = refl
 
 -- and behind it another
 pub still-comes : (b : Bool) (last : ℕ) → form.mayFollow b last 32 ≡ true → form.mayFollow true last 32 ≡ true
@@ -44,7 +65,7 @@ abbrev sized : (tag size l : ℕ) → Head
 sized t n l = cond (form.lengthGood t n) (cond (ltb l n) Cut (Whole (3 + n))) BadLength
 
 abbrev decided : Bool → List form.Field → (tag size l : ℕ) → Head
-decided b fs t n l = cond (eqb l 0) Cut (cond (form.mayCome b fs t) (cond (ltb l 3) Cut (sized t n (l - 3))) BadTag)
+decided b fs t n l = cond (eqb l 0) Cut (cond (form.mayCome b fs t) (cond (ltb l 3) Cut (sized t n (l - 3))) (BadTag (wrongIn (form.wrongTag b fs t))))
 
 valued-is : (t h l : ℕ) (bs : List ℕ) → headAs (form.valued t h l bs) ≡ cond (ltb (length bs) (256 * h + l)) Cut (Whole (3 + (256 * h + l)))
 unfolding headAs form.valued form.sizeOf
@@ -60,20 +81,20 @@ unfolding headAs
 sized-is true h = refl
 sized-is false h = refl
 
-tagged-is : (comes : Bool) (h : form.Head) → headAs (cond comes h form.badTag) ≡ cond comes (headAs h) BadTag
+tagged-is : (comes : Bool) (h : form.Head) (x : Refusal) → headAs (cond comes h (form.badTag x)) ≡ cond comes (headAs h) (BadTag (wrongIn x))
 unfolding headAs
-tagged-is true h = refl
-tagged-is false h = refl
+tagged-is true h x = refl
+tagged-is false h x = refl
 
 pub head-is : (b : Bool) (fs : List form.Field) (bs : List ℕ) → headAs (form.headOf b fs bs) ≡ decided b fs (getD bs 0 0) (256 * getD bs 1 0 + getD bs 2 0) (length bs)
 unfolding form.headOf form.sized headAs
 head-is b fs [] = refl
-head-is b fs (t ∷ []) = tagged-is (form.mayCome b fs t) form.cut
-head-is b fs (t ∷ h ∷ []) = tagged-is (form.mayCome b fs t) form.cut
+head-is b fs (t ∷ []) = tagged-is (form.mayCome b fs t) form.cut (form.wrongTag b fs t)
+head-is b fs (t ∷ h ∷ []) = tagged-is (form.mayCome b fs t) form.cut (form.wrongTag b fs t)
 head-is b fs (t ∷ h ∷ l ∷ bs) =
     let n : ℕ = length (t ∷ h ∷ l ∷ bs) in
     let m : n - 3 ≡ length bs = omega arith in
-    tagged-is (form.mayCome b fs t) (cond (form.lengthGood t (256 * h + l)) (form.valued t h l bs) form.badLength)
+    tagged-is (form.mayCome b fs t) (cond (form.lengthGood t (256 * h + l)) (form.valued t h l bs) form.badLength) (form.wrongTag b fs t)
     ∙ rw (sized-is (form.lengthGood t (256 * h + l)) (form.valued t h l bs), valued-is t h l bs, ne-eqb n 0 (omega arith), le-ltb n 3 (omega arith), m)
 
 -- ---- a whole field
@@ -119,19 +140,19 @@ module _ (b : Bool) (fs : List form.Field) (t h l : ℕ) (bs : List ℕ) (n : �
   front-good true good comes e = front-long comes good (le-cases size (length bs)) e
   front-good false good comes e = absurd (let z : _≡_ {A = ℕ} 0 1 = cc in omega arith)
 
-  front-comes : (m : Bool) → form.mayCome b fs t ≡ m → headAs (cond m (cond (form.lengthGood t size) (form.valued t h l bs) form.badLength) form.badTag) ≡ Whole n → Fronted b fs (t ∷ h ∷ l ∷ bs) n
+  front-comes : (m : Bool) → form.mayCome b fs t ≡ m → headAs (cond m (cond (form.lengthGood t size) (form.valued t h l bs) form.badLength) (form.badTag (form.wrongTag b fs t))) ≡ Whole n → Fronted b fs (t ∷ h ∷ l ∷ bs) n
   unfolding headAs
   front-comes true comes e = front-good (form.lengthGood t size) refl comes e
   front-comes false comes e = absurd (let z : _≡_ {A = ℕ} 0 1 = cc in omega arith)
 
-no-front : (m : Bool) {n : ℕ} → headAs (cond m form.cut form.badTag) ≡ Whole n → ⊥
+no-front : (m : Bool) (x : Refusal) {n : ℕ} → headAs (cond m form.cut (form.badTag x)) ≡ Whole n → ⊥
 unfolding headAs
-no-front true e = let z : _≡_ {A = ℕ} 0 1 = cc in omega arith
-no-front false e = let z : _≡_ {A = ℕ} 0 1 = cc in omega arith
+no-front true x e = let z : _≡_ {A = ℕ} 0 1 = cc in omega arith
+no-front false x e = let z : _≡_ {A = ℕ} 0 1 = cc in omega arith
 
 pub front : (b : Bool) (fs : List form.Field) (bs : List ℕ) (n : ℕ) → headAs (form.headOf b fs bs) ≡ Whole n → Fronted b fs bs n
 unfolding headAs form.headOf form.sized
 front b fs [] n e = absurd (cut-whole e)
-front b fs (t ∷ []) n e = absurd (no-front (form.mayCome b fs t) e)
-front b fs (t ∷ h ∷ []) n e = absurd (no-front (form.mayCome b fs t) e)
+front b fs (t ∷ []) n e = absurd (no-front (form.mayCome b fs t) (form.wrongTag b fs t) e)
+front b fs (t ∷ h ∷ []) n e = absurd (no-front (form.mayCome b fs t) (form.wrongTag b fs t) e)
 front b fs (t ∷ h ∷ l ∷ bs) n e = front-comes b fs t h l bs n (form.mayCome b fs t) refl e

@@ -34,7 +34,7 @@ use Rattle.lines.specs.Runs.{Standing, counterFor, lineAt, nextAt, linesAt}
 use Rattle.chunks.specs.declared.State.{State}
 use Rattle.chunks.specs.declared.fields.Move.the-variants.{On}
 use Rattle.chunks.specs.declared.fields.Took.{Took}
-use Rattle.chunks.specs.Took.{tookAs, entryAfter, entryRefused, entryTook, fieldTook, headTook, newest, headAt, tookOf}
+use Rattle.chunks.specs.Took.{tookAs, entryAfter, entryRefused, entryTook, fieldTook, headTook, readIn, headAt, tookOf}
 use Rattle.chunks.specs.Heard.{fieldLine, headLine, lineOf}
 use Rattle.chunks.specs.Parts.{fieldIn, standsIn, linesIf, Leads, stateWith, entryMayCome, Leapt}
 use Rattle.chunks.proofs.Bytes.{Bytes, bytes-drop, four-small}
@@ -72,8 +72,8 @@ module _ (st : State) (bs : List ℕ) (comes : entryMayCome st ≡ true) (b : By
   abbrev field : form.Field
   field = fieldIn (take 10 bs)
 
-  fronted : Fronted (st .rec .last .seen) (newest (st .tag)) bs 10
-  fronted = entry-fronted bs (parts .0) (st .rec .last .seen) (newest (st .tag)) (come-as (st .rec .last .seen) (st .tag) 32 ∙ comes)
+  fronted : Fronted (st .rec .last .seen) (readIn st) bs 10
+  fronted = entry-fronted bs (parts .0) (st .rec .last .seen) (readIn st) (come-as (st .rec .last .seen) (st .tag) (st .rec .card .sleeps) 32 ∙ comes)
 
   entry-is : form.entryOf field ≡ entryAt bs
   entry-is = entry-part bs (parts .0)

@@ -9,7 +9,7 @@ use lib.Dec.{eqb}
 use lib.ListN.{length, getD, take, drop, length-drop}
 use lib.Seq.{take-all, length-take-le, getD-take}
 use borrow.Author.Tests.{eq-eqb, ne-eqb, le-leb}
-use Rattle.rules.specs.Checks.{Refusal, refusal, unless}
+use Rattle.rules.specs.Checks.{Refusal, refusal}
 use Rattle.rules.specs.Form as form
 use Rattle.rules.specs.Lent as lent
 use Rattle.rules.proofs.Tests.{some-none}
@@ -41,6 +41,7 @@ use Rattle.chunks.specs.Took.{
   wrapped,
   refusedHere,
   refusedBy,
+  refusedTag,
   cardAfter,
   cardTook,
   entryRefused,
@@ -51,31 +52,34 @@ use Rattle.chunks.specs.Took.{
   fieldTook,
   behindTook,
   headTook,
-  newest,
+  readIn,
   headAt,
   tookOf,
 }
-use Rattle.chunks.specs.Parts.{fieldIn, headAs, toldOf, NotTaken, endOn}
+use Rattle.chunks.specs.Parts.{fieldIn, wrongIn, headAs, toldOf, NotTaken, endOn}
 use Rattle.chunks.proofs.Sizes.{size-in}
 use Rattle.chunks.proofs.Fronts.{Fronted}
 use Rattle.chunks.proofs.Entries.{entry-in, refused-in}
 
 -- ---- a card's field
-module _ (st : State) (bs : List ℕ) (v : Read) (r : ReadAs (st .rec .card) (getD bs 0 0) (take (length bs - 3) (drop 3 bs)) v) where
-  read-all : ReadAs (st .rec .card) (getD bs 0 0) (drop 3 bs) v
+module _ (st : State) (bs : List ℕ) (v : Read) (r : ReadAs (st .rec .card) (st .rec .last .seen) (st .tag) (getD bs 0 0) (take (length bs - 3) (drop 3 bs)) v) where
+  abbrev readThere : Option Refusal
+  readThere = reading.readRefusal (st .rec .card) (st .rec .last .seen) (st .tag) (getD bs 0 0) (drop 3 bs)
+
+  read-all : ReadAs (st .rec .card) (st .rec .last .seen) (st .tag) (getD bs 0 0) (drop 3 bs) v
   read-all = rw (rest-of bs 3) at r
 
-  pub card-refused : (v .refusal ≡ 0 → ⊥) → tookAs (End (Refused (v .refusal) 0 (st .offset) 0)) st ≡ cardTook st (fieldIn bs)
-  unfolding cardTook fieldIn refusedHere reading.refusalOf unless refusal
+  pub card-refused : (v .refusal ≡ 0 → ⊥) → tookAs (End (Refused (v .refusal) (v .rule) (st .offset) 0)) st ≡ cardTook st (fieldIn bs)
+  unfolding cardTook fieldIn refusedHere reading.refusalOf refusal
   card-refused n =
-      let o : reading.readRefusal (st .rec .card) (getD bs 0 0) (drop 3 bs) ≡ some (refusal (v .refusal) 0 0) = sym (read-all .told) ∙ rw (ne-eqb _ _ n) in
+      let o : readThere ≡ some (refusal (v .refusal) (v .rule) 0) = sym (read-all .told) ∙ rw (ne-eqb _ _ n) in
       rw (o, cardTook)
 
   pub card-taken : 3 ≤ length bs → v .refusal ≡ 0
       → tookAs (On (length bs)) (record { tag = getD bs 0 0; rec = freshOf (v .card); commands = st .commands; refreshes = st .refreshes; offset = wrapped (st .offset + length bs) }) ≡ cardTook st (fieldIn bs)
-  unfolding cardTook cardAfter fieldIn reading.refusalOf reading.unlessRefused unless
+  unfolding cardTook cardAfter fieldIn reading.refusalOf reading.unlessRefused
   card-taken h z =
-      let o : reading.readRefusal (st .rec .card) (getD bs 0 0) (drop 3 bs) ≡ none = sym (read-all .told) ∙ rw (eq-eqb _ _ z) in
+      let o : readThere ≡ none = sym (read-all .told) ∙ rw (eq-eqb _ _ z) in
       let c : v .card ≡ reading.put (st .rec .card) (getD bs 0 0) (form.number (drop 3 bs)) (form.timingOf (drop 3 bs)) = rw o at (read-all .card) in
       rw (o, cardTook, size-in bs h, c)
 
@@ -159,14 +163,14 @@ behind-some st (b ∷ bs) n = refl
 abbrev unlessWhole : State → Head → Took → Took
 unlessWhole st (Whole n) y = y
 unlessWhole st Cut y = tookAs Wait st
-unlessWhole st BadTag y = refusedBy 2 st
+unlessWhole st (BadTag w) y = refusedTag (w .number) (w .expected) st
 unlessWhole st BadLength y = refusedBy 3 st
 
 head-took : (st : State) (h : form.Head) → headTook st h ≡ unlessWhole st (headAs h) (headTook st h)
-unfolding headTook headAs
+unfolding headTook headAs wrongIn
 head-took st (form.whole f rest) = refl
 head-took st form.cut = refl
-head-took st form.badTag = refl
+head-took st (form.badTag x) = refl
 head-took st form.badLength = refl
 
 module _ (st : State) (bs : List ℕ) (in-time : st .tag ≡ 33 → ⊥) where
@@ -174,7 +178,7 @@ module _ (st : State) (bs : List ℕ) (in-time : st .tag ≡ 33 → ⊥) where
   unfolding tookOf
   took-as h x e f = rw (← f, e, ne-eqb (st .tag) 33 in-time) (head-took st (headAt st bs))
 
-  pub whole-took : (n : ℕ) → Fronted (st .rec .last .seen) (newest (st .tag)) bs n → fieldTook st (fieldIn (take n bs)) ≡ tookOf st bs
+  pub whole-took : (n : ℕ) → Fronted (st .rec .last .seen) (readIn st) bs n → fieldTook st (fieldIn (take n bs)) ≡ tookOf st bs
   unfolding tookOf headAt headTook
   whole-took n f = rw (ne-eqb (st .tag) 33 in-time, f .is)
 

@@ -37,7 +37,7 @@ fieldLine st f =
 
 unfoldable pub headLine : State → Head → List ℕ
 headLine st cut = []
-headLine st badTag = []
+headLine st (badTag x) = []
 headLine st badLength = []
 headLine st (whole f rest) = fieldLine st f
 

@@ -8,6 +8,7 @@ use lib.Dec.{eqb}
 use lib.ListN.{length, getD, drop}
 use Rattle.rules.specs.Form as form
 use Rattle.rules.specs.Checks.{Refusal, refusal}
+use Rattle.card.specs.declared.Wrong.{Wrong}
 use Rattle.pins.specs.Values.{levelOf}
 use Rattle.pins.specs.Fronts.{frontOf}
 use Rattle.lines.specs.Written.{Lined}
@@ -29,10 +30,14 @@ use Rattle.chunks.specs.Heard.{behind, heardOf}
 unfoldable pub fieldIn : List ℕ → form.Field
 fieldIn bs = record { tag = getD bs 0 0; high = getD bs 1 0; low = getD bs 2 0; value = drop 3 bs }
 
+-- a tag's number, and what is expected in its place
+unfoldable pub wrongIn : Refusal → Wrong
+wrongIn x = record { number = x .number; expected = x .rule }
+
 unfoldable pub headAs : form.Head → Head
 headAs (form.whole f rest) = Whole (form.sizeOf f)
 headAs form.cut = Cut
-headAs form.badTag = BadTag
+headAs (form.badTag x) = BadTag (wrongIn x)
 headAs form.badLength = BadLength
 
 -- number, rule and cycle; no refusal has the number 0

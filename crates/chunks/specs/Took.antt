@@ -1,12 +1,12 @@
 -- What one field makes of a state. The tests of a field are those of the rules (`Form.headOf`), those of its value the card's (`readRefusal`), the checks of an
 -- entry and of an end those of a lent record (`stepRefusal`, `closeRefusal`).
 use Prim.Native.Nat.{ℕ, _+_, _%_, _^_}
-use mathlib.Core.Bool.{cond}
+use mathlib.Core.Bool.{Bool, cond}
 use mathlib.Core.List.{List, [], _∷_}
 use mathlib.Core.Option.{Option, none, some}
 use lib.Dec.{eqb}
 use Rattle.rules.specs.Checks.{Refusal}
-use Rattle.rules.specs.Form.{Field, sizeOf, number, timingOf, ofEntry, Head, whole, cut, badTag, badLength, headOf, entryOf, endOf}
+use Rattle.rules.specs.Form.{Field, sizeOf, sleepTags, number, timingOf, ofEntry, Head, whole, cut, badTag, badLength, headOf, entryOf, endOf}
 use Rattle.rules.specs.Lent.{stepRefusal, closeRefusal, movedOn}
 use Rattle.card.specs.declared.Card.{Card}
 use Rattle.card.specs.Values.{cardOf}
@@ -41,6 +41,10 @@ refusedHere st x = tookAs (End (Refused (x .number) (x .rule) (st .offset) (x .c
 unfoldable pub refusedBy : ℕ → State → Took
 refusedBy k st = tookAs (End (Refused k 0 (st .offset) 0)) st
 
+-- with the tag that is expected in the rule place
+unfoldable pub refusedTag : (number expected : ℕ) → State → Took
+refusedTag k e st = tookAs (End (Refused k e (st .offset) 0)) st
+
 -- ---- a card's field
 unfoldable pub cardAfter : State → Field → State
 cardAfter st f = record {
@@ -52,7 +56,7 @@ cardAfter st f = record {
 }
 
 unfoldable pub cardTook : State → Field → Took
-cardTook st f = elim (readRefusal (st .rec .card) (f .tag) (f .value)) [ none ↦ tookAs (On (sizeOf f)) (cardAfter st f) | some x ↦ refusedHere st x ]
+cardTook st f = elim (readRefusal (st .rec .card) (st .rec .last .seen) (st .tag) (f .tag) (f .value)) [ none ↦ tookAs (On (sizeOf f)) (cardAfter st f) | some x ↦ refusedHere st x ]
 
 -- ---- an entry, of pins or a temperature
 unfoldable pub entryAfter : State → Field → State
@@ -100,7 +104,7 @@ fieldTook st f = cond (ofEntry (f .tag)) (entryTook st f) (cond (eqb (f .tag) 33
 
 unfoldable pub headTook : State → Head → Took
 headTook st cut = tookAs Wait st
-headTook st badTag = refusedBy 2 st
+headTook st (badTag x) = refusedTag (x .number) (x .rule) st
 headTook st badLength = refusedBy 3 st
 headTook st (whole f rest) = fieldTook st f
 
@@ -109,12 +113,18 @@ unfoldable pub behindTook : State → List ℕ → Took
 behindTook st [] = tookAs Wait st
 behindTook st (b ∷ bs) = refusedBy 12 st
 
--- a field of the card with this tag, for the tests of the next one: they look at nothing else. With tag 0 it stands for none
-unfoldable pub newest : ℕ → List Field
-newest t = record { tag = t; high = 0; low = 0; value = [] } ∷ []
+-- fields of the card for the tests of the next tag: they look at the newest one's and at whether 19 was read, and at nothing else. Tag 0 stands for none
+unfoldable pub tagged : ℕ → Field
+tagged t = record { tag = t; high = 0; low = 0; value = [] }
+
+unfoldable pub newest : (last : ℕ) → (sleeps : Bool) → List Field
+newest t s = tagged t ∷ cond s (tagged (sleepTags .first) ∷ []) []
+
+abbrev pub readIn : State → List Field
+readIn st = newest (st .tag) (st .rec .card .sleeps)
 
 unfoldable pub headAt : State → List ℕ → Head
-headAt st bs = headOf (st .rec .last .seen) (newest (st .tag)) bs
+headAt st bs = headOf (st .rec .last .seen) (readIn st) bs
 
 unfoldable pub tookOf : State → List ℕ → Took
 tookOf st bs = cond (eqb (st .tag) 33) (behindTook st bs) (headTook st (headAt st bs))

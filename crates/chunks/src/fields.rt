@@ -55,10 +55,10 @@ fn take_card(state: State, bytes: &[u8]) -> Took
     let rec = state.rec;
     let tag = bytes[0];
     let size = bytes.len();
-    let value = card::read_value(rec.card, tag, &bytes[3..]);
+    let value = card::read_value(rec.card, rec.last.seen, state.tag, tag, &bytes[3..]);
     let refusal = value.refusal;
     if refusal != 0 {
-        return refused(state, refusal, 0, 0);
+        return refused(state, refusal, value.rule, 0);
     }
     Took {
         how: Move::On(size),
@@ -188,13 +188,13 @@ pub fn take_field(state: State, bytes: &[u8]) -> Took
     if last == 33 {
         return take_behind(state, bytes);
     }
-    match heads::head_of(state.rec.last.seen, last, bytes) {
+    match heads::head_of(state.rec.last.seen, last, state.rec.card.sleeps, bytes) {
         Head::Whole(n) => take_whole(state, &bytes[..n]),
         Head::Cut => Took {
             how: Move::Wait,
             state: state,
         },
-        Head::BadTag => refused(state, 2, 0, 0),
+        Head::BadTag(wrong) => refused(state, wrong.number, wrong.expected, 0),
         Head::BadLength => refused(state, 3, 0, 0),
     }
 }

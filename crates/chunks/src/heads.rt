@@ -5,12 +5,13 @@ ghost use lib.ListN.{length, getD};
 ghost use Rattle.rules.specs.Form as form;
 ghost use Rattle.chunks.specs.Took.{newest};
 ghost use Rattle.chunks.specs.Parts.{headAs};
+use card::Wrong;
 
 // A whole field of so many bytes, one whose rest is not there yet, or a refusal.
 pub enum Head {
     Whole(usize),
     Cut,
-    BadTag,
+    BadTag(Wrong),
     BadLength,
 }
 
@@ -28,16 +29,16 @@ fn size_in(bytes: &[u8]) -> usize
     256 * wide(bytes[1]) + wide(bytes[2])
 }
 
-// Behind this tag of the card; `begun`: an entry has come.
-pub fn head_of(begun: bool, last: u8, bytes: &[u8]) -> Head
-    ensures { λ r. ⌜ r ≡ headAs (form.headOf begun (newest last) (now (bytes .entry))) ⌝ }
+// Behind this tag of the card; `begun`: an entry has come; `sleeps`: tags 19 to 22 were read.
+pub fn head_of(begun: bool, last: u8, sleeps: bool, bytes: &[u8]) -> Head
+    ensures { λ r. ⌜ r ≡ headAs (form.headOf begun (newest last sleeps) (now (bytes .entry))) ⌝ }
 {
     if bytes.len() == 0 {
         return Head::Cut;
     }
     let tag = bytes[0];
     if !card::may_come(begun, last, tag) {
-        return Head::BadTag;
+        return Head::BadTag(card::wrong_tag(begun, last, sleeps, tag));
     }
     if bytes.len() < 3 {
         return Head::Cut;

@@ -8,11 +8,12 @@ use lib.Seq.{drop-at}
 use borrow.Author.Tests.{ne-eqb}
 use Rattle.rules.specs.Past.{Past}
 use Rattle.rules.specs.Checks.{refusal}
-use Rattle.rules.specs.Form.{Field, bytesOf, sizeOf, whole, cardOf, entryOf, endOf}
+use Rattle.rules.specs.Form.{Field, bytesOf, sizeOf, _upTo_, wrongAfter, wrongTag, whole, cardOf, entryOf, endOf}
 use Rattle.rules.specs.File.{FileVerdict, refused, Step, goesOn, ends, closing, acceptedAt, begun, stepOf}
-use Rattle.rules.specs.FileReading.{RightForm, one, two, three, four, entry, end, twelve, good}
+use Rattle.rules.specs.FileReading.{RightForm, one, tag, three, four, entry, end, twelve, good}
 use Rattle.rules.specs.Lines.{entryLines}
 use Rattle.rules.proofs.Exactly.{entry-decides, end-decides}
+use Rattle.rules.proofs.WrongTags.{expected-only, wrong-only}
 use Rattle.rules.proofs.FileHeads.{HeadSays, is-whole, is-cut, is-bad-tag, is-bad-length}
 use Rattle.rules.proofs.FileSteps.{StepSays, card-on, entry-on, stops, step-says}
 use Rattle.chunks.specs.declared.State.{State}
@@ -21,7 +22,7 @@ use Rattle.chunks.specs.declared.Verdict.the-variants.{Refused}
 use Rattle.chunks.specs.declared.fields.Move.the-variants.{On, Wait, End}
 use Rattle.chunks.specs.declared.fields.Took.{Took}
 use Rattle.chunks.specs.Values.{verdictOf}
-use Rattle.chunks.specs.Took.{tookAs, refusedHere, refusedBy, headTook, tookOf, fieldTook}
+use Rattle.chunks.specs.Took.{tookAs, refusedHere, refusedBy, refusedTag, headTook, tookOf, fieldTook}
 use Rattle.chunks.specs.Heard.{fieldLine, headLine, lineOf}
 use Rattle.chunks.proofs.Bytes.{Bytes, bytes-part}
 use Rattle.judge.proofs.Stands.{Stands, took-by, line-by}
@@ -95,7 +96,7 @@ module _ {st : State} {fs : List Field} {past : Past} {at : ℕ} (s : Stands st 
         (closes (sizeOf f) v at′ (some-bytes f rest .0) (some-bytes f rest .1) n (line ∙ no-line f (λ e. omega arith))))
 
   moves-so : {bs : List ℕ} {x : Step} → StepSays fs past at bs x → Bytes bs → Moves st past at bs (tookOf st bs) x
-  unfolding headTook refusedBy refusedHere refusal closing
+  unfolding headTook refusedBy refusedTag refusedHere wrongTag wrongAfter refusal _upTo_ closing
   moves-so (card-on f rest form w g) b =
       goes-so f rest form (card-taken s f form w g) (card-stands s f form w g)
       (rw (no-line f (λ e. omega (arith, tag-in s f form w)), append-nil))
@@ -103,7 +104,8 @@ module _ {st : State} {fs : List Field} {past : Past} {at : ℕ} (s : Stands st 
       let n = entry-decides (cardOf fs) past (entryOf f) .passing .1 p in
       goes-so f rest form (entry-taken s w f form t n) (entry-stands s w f form t n (bytes-part (bytesOf f) rest b .0)) (entry-line s w f form t n)
   moves-so (stops (one c)) b = rw (took-by s (is-cut c)) waits
-  moves-so (stops (two m)) b = stops-so 2 0 0 (took-by s (is-bad-tag m))
+  moves-so (stops (tag {t = t} {k = k} {e = e} m w x)) b =
+      stops-so k e 0 (took-by s (is-bad-tag m) ∙ rw (wrong-only fs (s .card) (begun past) t w, expected-only fs (s .card) t x))
   moves-so (stops (three m g)) b = stops-so 3 0 0 (took-by s (is-bad-length m g))
   moves-so (stops (four f rest form w g)) b = stops-so 4 0 0 (took f rest form ∙ card-refused s f form w g)
   moves-so (stops (entry f rest x form w t p)) b =

@@ -10,7 +10,7 @@ use Rattle.rules.proofs.FileHeads.{HeadSays, is-whole, is-cut, is-bad-tag, is-b
 use Rattle.chunks.specs.declared.State.{State}
 use Rattle.chunks.specs.declared.Verdict.{Verdict}
 use Rattle.chunks.specs.declared.fields.Move.the-variants.{On, Wait, End}
-use Rattle.chunks.specs.Took.{headTook, behindTook, newest, headAt, tookOf}
+use Rattle.chunks.specs.Took.{headTook, behindTook, readIn, headAt, tookOf}
 use Rattle.chunks.specs.Heard.{headLine, lineOf}
 use Rattle.chunks.proofs.Advances.{wait-on, behind-on}
 
@@ -29,14 +29,14 @@ module _ (st : State) (b : Bool) (fs : List Field) where
 
 -- ---- any bytes
 module _ (st : State) (xs : List ℕ) where
-  says : HeadSays (st .rec .last .seen) (newest (st .tag)) xs (headAt st xs)
+  says : HeadSays (st .rec .last .seen) (readIn st) xs (headAt st xs)
   unfolding headAt
-  says = head-says (st .rec .last .seen) (newest (st .tag)) xs
+  says = head-says (st .rec .last .seen) (readIn st) xs
 
   head-stays-at : (headTook st (headAt st xs) .how ≡ Wait → ⊥) → (ys : List ℕ) →
       (headTook st (headAt st (xs ++ ys)) ≡ headTook st (headAt st xs)) × (headLine st (headAt st (xs ++ ys)) ≡ headLine st (headAt st xs))
   unfolding headAt
-  head-stays-at m ys = head-stays st (st .rec .last .seen) (newest (st .tag)) (unfold headAt in says) m ys
+  head-stays-at m ys = head-stays st (st .rec .last .seen) (readIn st) (unfold headAt in says) m ys
 
   behind-stays : (cs : List ℕ) → (behindTook st cs .how ≡ Wait → ⊥) → (ys : List ℕ) → behindTook st (cs ++ ys) ≡ behindTook st cs
   unfolding behindTook

@@ -15,7 +15,7 @@ use Rattle.card.proofs.Lengths.{listed-has}
 use Rattle.chunks.specs.declared.State.{State}
 use Rattle.chunks.specs.declared.What.the-variants.{More, Full}
 use Rattle.chunks.specs.declared.fields.Move.the-variants.{Wait}
-use Rattle.chunks.specs.Took.{refusedBy, headTook, behindTook, newest, headAt, tookOf}
+use Rattle.chunks.specs.Took.{refusedBy, refusedTag, headTook, behindTook, readIn, headAt, tookOf}
 use Rattle.chunks.specs.Heard.{Heard, behind, heardOf}
 use Rattle.chunks.proofs.Turns.{hasRoom}
 use Rattle.chunks.proofs.Advances.{wait-on, field-how, taken-size}
@@ -35,7 +35,7 @@ cut-short fs (halfLength m) = omega arith
 cut-short fs (shortValue {t} {h} {l} m g s) = omega (arith, short-value t (256 * h + l) g)
 
 head-short : (st : State) (b : Bool) (fs : List Field) {bs : List ℕ} {h : Head} → HeadSays b fs bs h → headTook st h .how ≡ Wait → length bs < 10
-unfolding headTook refusedBy
+unfolding headTook refusedBy refusedTag
 head-short st b fs (is-whole f rest r) e = field-how st f Wait (λ q. wait-on (sym q)) (λ v q. absurd (end-wait q)) e
 head-short st b fs (is-cut c) e = cut-short fs c
 head-short st b fs (is-bad-tag m) e = absurd (end-wait e)
@@ -52,7 +52,7 @@ wait-short st bs e = go (eqb (st .tag) 33) e
   where
     go : (b : Bool) → cond b (behindTook st bs) (headTook st (headAt st bs)) .how ≡ Wait → length bs < 10
     go true e = behind-short st bs e
-    go false e = head-short st (st .rec .last .seen) (newest (st .tag)) (head-says (st .rec .last .seen) (newest (st .tag)) bs) (unfold headAt in e)
+    go false e = head-short st (st .rec .last .seen) (readIn st) (head-says (st .rec .last .seen) (readIn st) bs) (unfold headAt in e)
 
 -- so a buffer of 10 bytes is enough for what is left over
 pub left-short : (q : Bool) (room : ℕ) (st : State) (bs : List ℕ) → heardOf q room st bs .what ≡ More → length (drop (heardOf q room st bs .used) bs) < 10

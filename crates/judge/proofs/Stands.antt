@@ -10,7 +10,8 @@ use lib.ListN.{length}
 use borrow.Author.Tests.{ne-eqb}
 use Rattle.rules.specs.Past.{Past, lastCycle, commandCount}
 use Rattle.rules.specs.Verdict.{refreshCount}
-use Rattle.rules.specs.Form.{Field, sizeOf, lastTag, cardWhole, mayCome, Head, headOf, cardOf}
+use Rattle.rules.specs.Card.{Card}
+use Rattle.rules.specs.Form.{Field, sizeOf, _upTo_, lastTag, has, cardWhole, mayCome, wrongTag, Head, headOf, cardOf}
 use Rattle.rules.specs.File.{begun}
 use Rattle.rules.specs.FileReading.{CardRight}
 use Rattle.rules.specs.Lent.{standing, AllTaken}
@@ -21,7 +22,8 @@ use Rattle.rules.proofs.Rounds.{Rising}
 use Rattle.rules.proofs.Taken.{rising, below-last, unmoved}
 use Rattle.rules.proofs.StepByList.{fresh-stands}
 use Rattle.rules.proofs.FileHeads.{HeadSays, head-only}
-use Rattle.rules.proofs.FileSteps.{tags-rise, tag-below}
+use Rattle.rules.proofs.CardTags.{tags-rise, tag-below}
+use Rattle.card.specs.Values as card
 use Rattle.card.specs.Reading.{blankCard}
 use Rattle.card.proofs.Fields.{Holds, holds-blank}
 use Rattle.bank.specs.declared.Once.{Once}
@@ -32,6 +34,7 @@ use Rattle.step.proofs.Arrays.{fresh-whole}
 use Rattle.chunks.specs.declared.State.{State}
 use Rattle.chunks.specs.Took.{wrapped, newest, headAt, headTook, tookOf}
 use Rattle.chunks.specs.Heard.{startOf, headLine, lineOf}
+use Rattle.chunks.proofs.Fronts.{come-as, wrong-as}
 use Rattle.chunks.proofs.Wraps.{wrapped-is}
 use Rattle.judge.proofs.Overflow.{few, commands-few}
 use Rattle.judge.proofs.Counts.{none-counted, refreshes-few}
@@ -69,11 +72,11 @@ start-stands = record {
   near = omega arith;
 }
 
--- ---- the tests of a head look at the newest tag alone
-head-same : (b : Bool) (t : ℕ) (fs : List Field) → t ≡ lastTag fs → (bs : List ℕ) → headOf b (newest t) bs ≡ headOf b fs bs
-unfolding headOf mayCome newest
-head-same b t fs e [] = refl
-head-same b t fs e (c ∷ bs) = rw e (unfold lastTag in refl)
+-- ---- the tests of a head look at the newest tag, and at whether 19 was read
+head-same : (b : Bool) (t : ℕ) (x : Bool) (fs : List Field) → t ≡ lastTag fs → x ≡ has 19 fs → (bs : List ℕ) → headOf b (newest t x) bs ≡ headOf b fs bs
+unfolding headOf
+head-same b t x fs e h [] = refl
+head-same b t x fs e h (c ∷ bs) = rw (come-as b t x c, wrong-as b t x c, e, h) (unfold mayCome wrongTag _upTo_ in refl)
 
 begun-is : (x : Once) (past : Past) → lastOf x ≡ lent.lastOf past → x .seen ≡ begun past
 unfolding lastOf lent.lastOf begun
@@ -96,9 +99,12 @@ module _ {st : State} {fs : List Field} {past : Past} {at : ℕ} (s : Stands st 
   pub not-ended : eqb (st .tag) 33 ≡ false
   not-ended = ne-eqb (st .tag) 33 (λ e. omega (arith, e, s .tag, tag-below fs (s .card)))
 
+  sleeps-is : st .rec .card .sleeps ≡ has 19 fs
+  sleeps-is = unfold card.cardOf cardOf in ap (λ (c : Card). c .sleeps) (s .holds .reads)
+
   head-is : {bs : List ℕ} {h : Head} → HeadSays (begun past) fs bs h → headAt st bs ≡ h
   unfolding headAt
-  head-is {bs} h = rw has-begun (head-same (begun past) (st .tag) fs (s .tag) bs ∙ head-only (begun past) fs h)
+  head-is {bs} h = rw has-begun (head-same (begun past) (st .tag) (st .rec .card .sleeps) fs (s .tag) sleeps-is bs ∙ head-only (begun past) fs h)
 
   pub took-by : {bs : List ℕ} {h : Head} → HeadSays (begun past) fs bs h → tookOf st bs ≡ headTook st h
   unfolding tookOf

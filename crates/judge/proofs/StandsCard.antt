@@ -1,24 +1,24 @@
 -- A field of the card: taken where its value is in range, and then the state stands for one field more; else refused.
 use Prim.Native.Nat.{ℕ, _+_, _≤_}
 use mathlib.Core.Path.{_≡_, refl, sym, _∙_}
-use mathlib.Core.Bool.{Bool, true, false, or-true}
+use mathlib.Core.Bool.{Bool, true, false, _&&_}
 use mathlib.Core.Logic.{⊎-elim}
 use mathlib.Core.List.{List, [], _∷_}
 use native.Mathlib.Omega.{arith}
 use lib.ListN.{length}
-use borrow.Author.Tests.{eq-eqb, ne-eqb, le-leb}
-use Rattle.rules.specs.Ranges.{within}
+use borrow.Author.Tests.{ne-eqb}
 use Rattle.rules.specs.Past.{Past}
 use Rattle.rules.specs.Folds.{orElse, firstOf}
 use Rattle.rules.specs.Checks.{refusal, unless}
-use Rattle.rules.specs.Form.{Field, sizeOf, lastTag, lengthGood, cardWhole, ofEntry, ofTrace, cardOf, fieldGood}
+use Rattle.rules.specs.Form.{Field, sizeOf, lastTag, mayFollow, mayCome, ofCard, lengthGood, cardWhole, ofEntry, ofTrace, cardOf, fieldGood}
 use Rattle.rules.specs.File.{begun}
 use Rattle.rules.specs.FileReading.{RightForm, CardRight}
 use Rattle.rules.specs.Lent.{AllTaken}
 use Rattle.rules.proofs.Decided.{or-none}
 use Rattle.rules.proofs.StepByList.{fresh-stands}
-use Rattle.rules.proofs.FileSteps.{no-more, card-tag}
-use Rattle.card.specs.Reading.{ofCard, readRefusal}
+use Rattle.rules.proofs.Tags.{of-within}
+use Rattle.rules.proofs.CardTags.{no-more, card-bounds, card-tag}
+use Rattle.card.specs.Reading.{readRefusal}
 use Rattle.card.proofs.Fields.{good-field, holds-more}
 use Rattle.bank.specs.Values.{freshOf}
 use Rattle.bank.proofs.Beginning.{fresh-lent}
@@ -28,7 +28,7 @@ use Rattle.chunks.specs.declared.fields.Move.the-variants.{On}
 use Rattle.chunks.specs.Took.{tookAs, refusedHere, cardAfter, cardTook, fieldTook}
 use Rattle.judge.proofs.Overflow.{size-small}
 use Rattle.judge.proofs.Counts.{none-counted}
-use Rattle.judge.proofs.Stands.{Stands, offset-behind}
+use Rattle.judge.proofs.Stands.{Stands, has-begun, offset-behind}
 
 module _ {st : State} {fs : List Field} {past : Past} {at : ℕ} (s : Stands st fs past at) (f : Field) (form : RightForm (begun past) fs f) (o : ofTrace (f .tag) ≡ false) where
   -- no entry has come: before the card is whole none may, and behind one nothing of the card
@@ -51,16 +51,12 @@ module _ {st : State} {fs : List Field} {past : Past} {at : ℕ} (s : Stands st 
   right g = (form-first, o, g, s .card)
 
   pub tag-in : f .tag ≤ 26
-  tag-in = ⊎-elim (λ (h : f .tag ≤ 23). omega arith) (⊎-elim (λ (h : f .tag ≡ 25). omega arith) (λ (h : f .tag ≡ 26). omega arith)) (card-tag fs f (s .card) form o .1)
+  tag-in =
+      ⊎-elim (λ (h : f .tag ≤ 23). omega arith) (⊎-elim (λ (h : f .tag ≡ 25). omega arith) (λ (h : f .tag ≡ 26). omega arith))
+      (card-bounds (f .tag) (card-tag fs f (s .card) form o) .1)
 
-  of-a-card : ofCard (f .tag) ≡ true
-  unfolding ofCard within
-  of-a-card =
-      let t = card-tag fs f (s .card) form o in
-      ⊎-elim
-      (λ (h : f .tag ≤ 23). rw (le-leb 1 (f .tag) (t .0), le-leb (f .tag) 23 h))
-      (⊎-elim (λ (h : f .tag ≡ 25). rw (eq-eqb (f .tag) 25 h, or-true)) (λ (h : f .tag ≡ 26). rw (eq-eqb (f .tag) 26 h, or-true)))
-      (t .1)
+  comes : (ofCard (f .tag) && mayFollow (st .rec .last .seen) (st .tag) (f .tag)) ≡ true
+  comes = rw (of-within (f .tag) (card-tag fs f (s .card) form o), has-begun s, s .tag) (unfold mayCome in form .tag)
 
   sized : lengthGood (f .tag) (length (f .value)) ≡ true
   sized = rw (form .whole) (form .size)
@@ -68,9 +64,9 @@ module _ {st : State} {fs : List Field} {past : Past} {at : ℕ} (s : Stands st 
   size : sizeOf f ≤ 10
   size = size-small fs f form (omega (arith, tag-in))
 
-  read-is : readRefusal (st .rec .card) (f .tag) (f .value) ≡ unless (fieldGood fs f) 4
+  read-is : readRefusal (st .rec .card) (st .rec .last .seen) (st .tag) (f .tag) (f .value) ≡ unless (fieldGood fs f) 4
   unfolding readRefusal firstOf orElse unless
-  read-is = rw (of-a-card, sized, good-field (st .rec .card) fs f (s .holds), or-none)
+  read-is = rw (comes, sized, good-field (st .rec .card) fs f (s .holds), or-none)
 
   pub of-card : fieldTook st f ≡ cardTook st f
   unfolding fieldTook ofEntry

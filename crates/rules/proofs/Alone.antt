@@ -23,7 +23,7 @@ use Rattle.rules.specs.Checks.{Refusal, unless, named, isWrong, isReserv
 use Rattle.rules.specs.Form.{Field, Group, _upTo_, Listed, _of_, number, numberAt, timingOf}
 use Rattle.rules.specs.File.{FileVerdict, accepted}
 use Rattle.rules.specs.Lines.{decimal, nameOf, showsBank, verdictLine}
-use Rattle.rules.proofs.Walks.{Judge, judgedBy}
+use Rattle.rules.proofs.Walks.{Judge, two, judgedBy}
 use Rattle.rules.proofs.Timed.{timedRules, comeIn}
 use Rattle.rules.proofs.Mild.{pinsOf, mildBook, mildTrace}
 
@@ -91,6 +91,7 @@ aloneGood fs f =
 unfoldable pub alone : Judge
 alone = record {
   come = comeIn mildTrace aloneGroups;
+  wrong = two;
   entry = aloneEntry;
   taken = aloneTaken;
   end = aloneEnd;

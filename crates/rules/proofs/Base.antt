@@ -25,7 +25,7 @@ use Rattle.rules.specs.Checks.{Refusal, unless, named, isWrong, isReserv
 use Rattle.rules.specs.Form.{Field, lastTag}
 use Rattle.rules.specs.File.{FileVerdict, accepted}
 use Rattle.rules.specs.Lines.{verdictLine}
-use Rattle.rules.proofs.Walks.{Judge, judgedBy}
+use Rattle.rules.proofs.Walks.{Judge, two, judgedBy}
 use Rattle.rules.proofs.Mild.{pinsOf}
 use Rattle.rules.proofs.Alone.{aloneLook, aloneRules, aloneLines}
 
@@ -91,6 +91,7 @@ baseCome fs tag = cond (eqb (lastTag fs) 18) (eqb tag 32 || eqb tag 33) (eqb tag
 unfoldable pub base : Judge
 base = record {
   come = λ entries. baseCome;
+  wrong = two;
   entry = baseEntry;
   taken = λ card past. baseTaken;
   end = baseEnd;

@@ -1,8 +1,8 @@
 -- A file that does not use low clock-enable has the verdict and the lines that document 01's judge gave it: every file had, just before request Nine, unless
--- tag 19 stands behind its card, where that judge refused it by 2. By `Untagged` every file has still, unless tag 19, 23, 25, 26 or 34 stands so or an
--- entry that was taken writes MA 1.
+-- tag 19 stands behind its card, where that judge refused it by 2. By `Untagged` every file had just before request Three, unless tag 19, 23, 25, 26 or 34 stands
+-- so or an entry that was taken writes MA 1; and by `Retold` it has still, where that judge's verdict was no 2.
 use Prim.Native.Nat.{ℕ, zero, suc, _+_, _-_, _≤_, _<_}
-use mathlib.Core.Path.{_≡_, refl, ap, sym, _∙_, fun-ext}
+use mathlib.Core.Path.{_≡_, refl, ap, sym, _∙_, subst, fun-ext}
 use mathlib.Core.Logic.{_⊎_, ⊎-elim}
 use mathlib.Core.Bool.{Bool, true, false, cond, not, _&&_, _||_, and-false, or-false}
 use mathlib.Core.List.{List, [], _∷_, _++_, append-nil, map}
@@ -29,17 +29,18 @@ use Rattle.rules.specs.Checks.{unless, isBarred}
 use Rattle.rules.specs.Form.{Field, _upTo_, groups, lastTag, endsGroup, beginsGroup, cardWhole, ofTrace, has, cardOf, entryOf}
 use Rattle.rules.specs.File.{accepted, refused, begun, Judged, judged, judgeFile}
 use Rattle.rules.specs.FileReading.{CardRight}
-use Rattle.rules.specs.Lines.{decimal, signed, ledgerParts, verdictLine, linesOf}
+use Rattle.rules.specs.Lines.{decimal, signed, ledgerParts, entryLines, verdictLine, linesOf}
 use Rattle.rules.proofs.Tests.{eq-cases, _&_}
 use Rattle.rules.proofs.Biased.{numbered}
 use Rattle.rules.proofs.Clocks.{Counting, counted-all}
 use Rattle.rules.proofs.Decided.{failing-one, first-one}
 use Rattle.rules.proofs.Walks.{judgedBy, Met, TagTests, tests-as, still-comes, Alike, agree, behind-it}
+use Rattle.rules.proofs.Retold.{curt, same-by}
 use Rattle.rules.proofs.Timed.{timedRules, comeIn}
 use Rattle.rules.proofs.Unprogrammed.{Written, come-more, Tag23, Programmed}
 use Rattle.rules.proofs.Mild.{pinsOf, mildBook, mildTrace}
 use Rattle.rules.proofs.Unheated.{card-low, Heated}
-use Rattle.rules.proofs.Alone.{aloneRead, aloneTaken, aloneLook, aloneRules, aloneEntry, aloneEnd, aloneVerdict, aloneGroups, alone, aloneLines, linesAlone}
+use Rattle.rules.proofs.Alone.{aloneRead, aloneTaken, aloneLook, aloneRules, aloneEntry, aloneEnd, aloneVerdict, aloneGroups, alone, aloneLines}
 use Rattle.rules.proofs.Untagged.{quiet-tail, alone-comes, Paired, alone-ever, alone-lines}
 use Rattle.rules.proofs.Base.{baseCycle, baseBefore, baseLedger, baseFailing, baseFirst, baseTaken, baseRules, baseEntry, baseEnd, baseVerdict, baseCome, base, judgeBase, linesBase}
 
@@ -218,6 +219,7 @@ unfolding alone base
 alike fs past r q = record {
   tag = tag-as-before (begun past) fs (q .low);
   known = λ t m. alone-comes (begun past) fs (omega (arith, q .low)) t (still-comes (tag-as-before (begun past) fs (q .low) t) m);
+  wrong = λ t. refl;
   card = λ f b m o. let l = small f m o in record { low = unfold lastTag in l; without = unfold has in rw (ne-eqb (f .tag) 19 (λ e. omega (arith, e, l))) (q .without); still = q .still };
   entry = λ f n. same-entry (cardOf fs) awake-card past (q .still) (entryOf f);
   taken = λ f n. same-taken (cardOf fs) awake-card past (q .still) (entryOf f);
@@ -235,10 +237,11 @@ alike fs past r q = record {
 module _ (bytes : List ℕ) where
   -- just before request Nine the entries taken and the verdict were those of document 01's judge, or tag 19 stands where it saw a wrong tag
   pub as-before : (judgedBy alone bytes ≡ judgedBy base bytes) ⊎ Tagged bytes (judgedBy base bytes)
+  unfolding base
   as-before = agree alone base Tag19 Also alike bytes (record { low = unfold lastTag in omega arith; without = unfold has in refl; still = unfold Still in tt })
 
-  -- and they are still, or tag 19, 23, 25, 26 or 34 stands so, or an entry that was taken writes MA 1
-  pub as-ever : (judged bytes ≡ judgedBy base bytes)
+  -- and just before request Three they were still, or tag 19, 23, 25, 26 or 34 stands so, or an entry that was taken writes MA 1
+  pub as-ever : (judgedBy curt bytes ≡ judgedBy base bytes)
       ⊎ (Tagged bytes (judgedBy base bytes) ⊎ (Paired bytes (judgedBy base bytes) ⊎ (Heated bytes (judgedBy base bytes) ⊎ Programmed bytes (judgedBy base bytes))))
   as-ever = behind-it (λ j. Paired bytes j ⊎ (Heated bytes j ⊎ Programmed bytes j)) as-before (alone-ever bytes)
 
@@ -250,8 +253,8 @@ module _ (bytes : List ℕ) where
     then : judgedBy alone bytes ≡ judgedBy base bytes
     then = ⊎-elim (λ (e : judgedBy alone bytes ≡ judgedBy base bytes). e) (λ (t : Tagged bytes (judgedBy base bytes)). wrong _ refl _ (t .verdict)) as-before
 
-    now : judged bytes ≡ judgedBy alone bytes
-    now = ⊎-elim (λ (e : judged bytes ≡ judgedBy alone bytes). e)
+    later : judgedBy curt bytes ≡ judgedBy alone bytes
+    later = ⊎-elim (λ (e : judgedBy curt bytes ≡ judgedBy alone bytes). e)
         (⊎-elim
         (λ (p : Paired bytes (judgedBy alone bytes)). wrong _ (sym then) _ (p .verdict))
         (⊎-elim
@@ -261,13 +264,19 @@ module _ (bytes : List ℕ) where
         (λ (w : Written (judgedBy alone bytes .past)). absurd (unwritten (rw then at w))))))
         (alone-ever bytes)
 
+    now : judged bytes ≡ judgedBy base bytes
+    unfolding judgeBase
+    now = same-by bytes (judgedBy base bytes) (later ∙ then) (unfold judgeBase in right)
+
     pub verdict-as-before : judgeFile bytes ≡ judgeBase bytes
     unfolding judgeFile judgeBase
-    verdict-as-before = ap (λ (j : Judged). j .verdict) (now ∙ then)
+    verdict-as-before = ap (λ (j : Judged). j .verdict) now
 
     pub lines-as-before : linesOf bytes ≡ linesBase bytes
-    unfolding linesAlone linesBase
-    lines-as-before = alone-lines bytes now ∙ ap (λ (j : Judged). aloneLines (j .past) ++ verdictLine (j .verdict)) then
+    unfolding linesOf linesBase
+    lines-as-before =
+        ap (λ (j : Judged). entryLines (j .past) ++ verdictLine (j .verdict)) now
+        ∙ ap (λ (l : List ℕ). l ++ verdictLine (judgedBy base bytes .verdict)) (subst (λ (j : Judged). entryLines (j .past) ≡ aloneLines (j .past)) then (alone-lines bytes))
 
 -- ---- what document 01's judge shares with the definitions is as it was for it: the round counter where clock-enable stays, and the line of a verdict with
 -- one ledger

@@ -15,7 +15,7 @@ use Rattle.rules.specs.FileReading.{CardRight}
 use Rattle.rules.proofs.Tests.{eq-cases, both-true}
 use Rattle.rules.proofs.CardGood.{parts-good}
 use Rattle.rules.proofs.Tags.{ends-high}
-use Rattle.rules.proofs.FileSteps.{Follows, goes-on, begins, follows}
+use Rattle.rules.proofs.CardTags.{Follows, goes-on, begins, follows}
 
 tagged : ℕ → List ℕ → Field
 tagged t v = record { tag = t; high = 0; low = 0; value = v }

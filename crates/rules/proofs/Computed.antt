@@ -20,7 +20,7 @@ use Rattle.rules.specs.Clock.{clock, beatBy, beatAt, bookOf, booksOf}
 use Rattle.rules.specs.Checks.{Refusal, unless, named, checks, above, notBelow, entryChecks, endChecks, entryRefusal, endRefusal}
 use Rattle.rules.specs.Verdict.{refreshCount, ledgersAt}
 use Rattle.rules.specs.Reading.{Above, NotBelow}
-use Rattle.rules.specs.Form.{Field, mayCome, cardOf, entryOf}
+use Rattle.rules.specs.Form.{Field, mayCome, wrongTag, cardOf, entryOf}
 use Rattle.rules.specs.File.{accepted, begun, Judged, judged}
 use Rattle.rules.specs.FileReading.{CardRight}
 use Rattle.rules.specs.Lent.{Ledger, numberOf, Lent, hasPart, owingGood, isThere, Effect, noEffect, refreshedAt, sensedAt, atLevel, failingOf, ledgerAt, standsAt, freshShare, fresh, AllTaken}
@@ -36,7 +36,7 @@ use Rattle.rules.proofs.Owings.{number-at, failing-at, moved-on, failin
 use Rattle.rules.proofs.Taken.{passed, below-last, unmoved, rising, orderly, above-part, paid-through, paid-to-last, owing-good}
 use Rattle.rules.proofs.StepByList.{last-of-below, fresh-stands, ledger-is}
 use Rattle.rules.proofs.CardRead.{card-good}
-use Rattle.rules.proofs.Walks.{Judge, judgedBy, defined, defined-judged, Met, Alike, agree}
+use Rattle.rules.proofs.Walks.{Judge, judgedBy, defined, defined-judged, MetBy, Alike, agree}
 
 -- ---- each part's ledger, entry by entry, whosesoever
 -- what an entry does to the ledger of part p, behind the part's own entries
@@ -83,6 +83,7 @@ owingsFrom card past end = map (λ p. let k = keptOver card p past in ledgerClos
 unfoldable pub computing : Judge
 computing = record {
   come = mayCome;
+  wrong = wrongTag;
   entry = entryFrom;
   taken = takenFor;
   end = endFrom;
@@ -270,6 +271,7 @@ unfolding computing defined
 alike fs past r all = record {
   tag = λ t. inl refl;
   known = λ t m. m;
+  wrong = λ t. refl;
   card = λ f b m o. none-taken (cardOf (f ∷ fs)) past b;
   entry = λ f n. entry-computed (cardOf fs) (card-good fs r (n .whole)) past all (entryOf f);
   taken = λ f n. refl;
@@ -280,5 +282,5 @@ alike fs past r all = record {
 
 pub computed-judged : (bs : List ℕ) → computed bs ≡ judged bs
 unfolding computed
-computed-judged bs = ⊎-elim (λ (e : judgedBy computing bs ≡ judgedBy defined bs). e ∙ defined-judged bs) (λ (n : Met (λ entries fs t. ⊥) bs (judgedBy defined bs)). absurd (n .there .is))
+computed-judged bs = ⊎-elim (λ (e : judgedBy computing bs ≡ judgedBy defined bs). e ∙ defined-judged bs) (λ (n : MetBy (defined .wrong) (λ entries fs t. ⊥) bs (judgedBy defined bs)). absurd (n .there .is))
     (agree computing defined (λ entries fs t. ⊥) Also alike bs (unfold AllTaken in tt))

@@ -23,7 +23,7 @@ use Rattle.rules.proofs.Filtered.{IsPart}
 use Rattle.rules.proofs.Clocks.{counted-all}
 use Rattle.rules.proofs.Refreshed.{refreshed, all-counted}
 use Rattle.rules.proofs.Groups.{every-group, in-a-row}
-use Rattle.rules.proofs.FileSteps.{any-form, end-tag}
+use Rattle.rules.proofs.CardTags.{any-form, end-tag}
 use Rattle.rules.proofs.FileExactly.{file-iff}
 
 every-map : {A : Type 0} {P Q : A → Type 0} → ((x : A) → P x → Q x) → (xs : List A) → Every P xs → Every Q xs
@@ -47,7 +47,7 @@ refused-accepted e = let z : _≡_ {A = ℕ} 0 1 = cc in omega arith
 ends-good : {fs : List Field} {past : Past} {at : ℕ} {bs : List ℕ} {v : FileVerdict} → Ends fs past at bs v →
     {m n : ℕ} {l : List ℤ} → v ≡ FileVerdict.accepted m n l → EndsGood fs past bs v
 ends-good (Ends.one c) e = absurd (refused-accepted e)
-ends-good (Ends.two m) e = absurd (refused-accepted e)
+ends-good (Ends.tag m w x) e = absurd (refused-accepted e)
 ends-good (Ends.three m g) e = absurd (refused-accepted e)
 ends-good (Ends.four f bs h w g) e = absurd (refused-accepted e)
 ends-good (Ends.entry f bs x h w t p) e = absurd (refused-accepted e)

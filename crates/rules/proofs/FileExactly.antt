@@ -14,7 +14,8 @@ use Rattle.rules.specs.Form.{Field, bytesOf, sizeOf, cardWhole, cardOf, 
 use Rattle.rules.specs.File.{FileVerdict, Step, goesOn, begun, Judged, fileFrom, judged, judgeFile}
 use Rattle.rules.specs.FileReading.{CardRight, cardBytes, entriesBytes, EntryField, Ends, Says}
 use Rattle.rules.proofs.Tests.{nowhere}
-use Rattle.rules.proofs.FileSteps.{StepSays, card-on, entry-on, stops, any-form, no-more, entry-tag, step-says, step-only}
+use Rattle.rules.proofs.CardTags.{any-form, no-more, entry-tag}
+use Rattle.rules.proofs.FileSteps.{StepSays, card-on, entry-on, stops, step-says, step-only}
 
 -- ---- one field of the count
 file-on : {fs fs′ : List Field} {past past′ : Past} {at at′ : ℕ} {bs rest : List ℕ} → CardRight fs → StepSays fs past at bs (goesOn fs′ past′ at′ rest) →

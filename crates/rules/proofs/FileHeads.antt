@@ -9,14 +9,14 @@ use lib.Dec.{leb}
 use lib.ListN.{length, take, drop, length-append, length-take, take-append-drop}
 use lib.Seq.{take-at, drop-at}
 use borrow.Author.Tests.{le-leb, lt-leb}
-use Rattle.rules.specs.Form.{Field, bytesOf, mayCome, lengthGood, Head, whole, cut, badTag, badLength, valued, sized, headOf}
+use Rattle.rules.specs.Form.{Field, bytesOf, mayCome, wrongTag, lengthGood, Head, whole, cut, badTag, badLength, valued, sized, headOf}
 use Rattle.rules.specs.FileReading.{RightForm, Cut, noTag, noLength, halfLength, shortValue}
 use Rattle.rules.proofs.Tests.{le-cases}
 
 pub data HeadSays (b : Bool) (fs : List Field) : List ℕ → Head → Type 0 where
   is-whole : (f : Field) (rest : List ℕ) → RightForm b fs f → HeadSays b fs (bytesOf f ++ rest) (whole f rest)
   is-cut : {bs : List ℕ} → Cut b fs bs → HeadSays b fs bs cut
-  is-bad-tag : {t : ℕ} {bs : List ℕ} → mayCome b fs t ≡ false → HeadSays b fs (t ∷ bs) badTag
+  is-bad-tag : {t : ℕ} {bs : List ℕ} → mayCome b fs t ≡ false → HeadSays b fs (t ∷ bs) (badTag (wrongTag b fs t))
   is-bad-length : {t h l : ℕ} {bs : List ℕ} → mayCome b fs t ≡ true → lengthGood t (256 * h + l) ≡ false → HeadSays b fs (t ∷ h ∷ l ∷ bs) badLength
 
 -- a head with this tag and length, by whether its value is whole
@@ -58,7 +58,7 @@ module _ (b : Bool) (fs : List Field) where
   head-says [] = is-cut noTag
   head-says (t ∷ bs) = go (mayCome b fs t) refl
     where
-      go : (x : Bool) → mayCome b fs t ≡ x → HeadSays b fs (t ∷ bs) (cond x (sized t bs) badTag)
+      go : (x : Bool) → mayCome b fs t ≡ x → HeadSays b fs (t ∷ bs) (cond x (sized t bs) (badTag (wrongTag b fs t)))
       go true m = sized-says t bs m
       go false m = is-bad-tag m
 

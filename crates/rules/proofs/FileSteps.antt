@@ -1,43 +1,23 @@
 -- One field of a file does exactly what is read of it: the file goes on behind a right field of the card or an entry that passes, or it ends so.
-use Prim.Native.Nat.{ℕ, suc, _+_, _≤_, _<_}
+use Prim.Native.Nat.{ℕ, suc, _+_, _<_}
 use mathlib.Core.Path.{_≡_, refl, ap, _∙_}
-use mathlib.Core.Logic.{_⊎_, inl, inr, ⊎-elim}
-use mathlib.Core.Bool.{Bool, true, false, cond, not, _&&_, _||_}
+use mathlib.Core.Logic.{⊎-elim}
+use mathlib.Core.Bool.{Bool, true, false, cond, _||_}
 use mathlib.Core.List.{List, [], _∷_, _++_}
 use mathlib.Core.Option.{Option, none, some}
 use native.Mathlib.Omega.{arith}
-use lib.ListN.{length}
-use lib.Dec.{ltb, eqb}
-use borrow.Author.Tests.{ltb-true, eqb-true, eq-eqb, ne-eqb}
+use lib.Dec.{eqb}
+use borrow.Author.Tests.{eqb-true, eq-eqb, ne-eqb}
 use Rattle.rules.specs.Past.{Past}
 use Rattle.rules.specs.Entries.{pastWith}
-use Rattle.rules.specs.Checks.{Refusal, entryRefusal, endRefusal}
+use Rattle.rules.specs.Checks.{Refusal, refusal, entryRefusal, endRefusal}
 use Rattle.rules.specs.Reading.{AllPass, entryReads}
-use Rattle.rules.specs.Form.{
-  Field,
-  bytesOf,
-  sizeOf,
-  groups,
-  lastTag,
-  endsGroup,
-  beginsGroup,
-  cardWhole,
-  ofEntry,
-  ofTrace,
-  _upTo_,
-  mayFollow,
-  mayCome,
-  Head,
-  whole,
-  cardOf,
-  fieldGood,
-  entryOf,
-  endOf,
-}
+use Rattle.rules.specs.Form.{Field, bytesOf, sizeOf, _upTo_, lastTag, cardWhole, ofEntry, ofTrace, mayFollow, mayCome, wrongAfter, wrongTag, Head, whole, cardOf, fieldGood, entryOf, endOf}
 use Rattle.rules.specs.File.{FileVerdict, refused, Step, goesOn, ends, orRefused, cardStep, entryStep, acceptedAt, closing, endStep, byHead, begun, stepOf}
-use Rattle.rules.specs.FileReading.{RightForm, CardRight, Ends, one, two, three, four, entry, end, twelve, good}
-use Rattle.rules.proofs.Tests.{eq-cases, both-true}
-use Rattle.rules.proofs.Tags.{Within, begins-within, next-within, within-small, first-within}
+use Rattle.rules.specs.FileReading.{RightForm, CardRight, Ends, one, tag, three, four, entry, end, twelve, good}
+use Rattle.rules.proofs.Tests.{eq-cases}
+use Rattle.rules.proofs.CardTags.{entry-high, next-small}
+use Rattle.rules.proofs.WrongTags.{expected-is, expected-only, wrong-is, wrong-only}
 use Rattle.rules.proofs.Exactly.{entry-decides, end-decides}
 use Rattle.rules.proofs.FileHeads.{HeadSays, is-whole, is-cut, is-bad-tag, is-bad-length, head-says, head-only}
 
@@ -47,99 +27,6 @@ pub data StepSays (fs : List Field) (past : Past) (at : ℕ) : List ℕ → Step
   entry-on : (f : Field) (rest : List ℕ) → RightForm (begun past) fs f → cardWhole fs ≡ true → ofEntry (f .tag) ≡ true → AllPass (entryReads (cardOf fs) past (entryOf f)) →
       StepSays fs past at (bytesOf f ++ rest) (goesOn fs (pastWith (cardOf fs) past (entryOf f)) (at + sizeOf f) rest)
   stops : {bs : List ℕ} {v : FileVerdict} → Ends fs past at bs v → StepSays fs past at bs (ends v)
-
--- ---- a tag that may come tells which kind of field it is
--- behind the fields of a card a field of the card goes on with the next tag, or begins a group where the card could end
-pub data Follows (fs : List Field) (t : ℕ) : Type 0 where
-  goes-on : cardWhole fs ≡ false → t ≡ suc (lastTag fs) → Follows fs t
-  begins : cardWhole fs ≡ true → lastTag fs < t → beginsGroup groups t ≡ true → Follows fs t
-
-pub follows : {b : Bool} (f : Field) (fs : List Field) → RightForm b fs f → ofTrace (f .tag) ≡ false → Follows fs (f .tag)
-unfolding mayCome mayFollow cardWhole
-follows {b} f fs h o = go (cardWhole fs) refl
-  where
-    parts : (x y z : Bool) → (not x && (y && z)) ≡ true → (y ≡ true) × (z ≡ true)
-    parts true y z e = let q : _≡_ {A = ℕ} 0 1 = cc in absurd (omega arith)
-    parts false y z e = both-true y z e
-
-    go : (x : Bool) → cardWhole fs ≡ x → Follows fs (f .tag)
-    go false w = goes-on w (eqb-true (f .tag) (suc (lastTag fs)) (rw w at (h .tag)))
-    go true w =
-        let p = parts b (ltb (lastTag fs) (f .tag)) (beginsGroup groups (f .tag)) (rw (w, o) at (h .tag)) in
-        begins w (ltb-true (lastTag fs) (f .tag) (p .0)) (p .1)
-
--- an entry and the end may come before the first entry and behind it alike; behind an entry nothing else may
-pub any-form : {b : Bool} (c : Bool) (fs : List Field) (f : Field) → ofTrace (f .tag) ≡ true → RightForm b fs f → RightForm c fs f
-unfolding mayCome mayFollow cardWhole
-any-form c fs f o h = record { tag = rw o (rw o at (h .tag)); size = h .size; whole = h .whole }
-
-pub no-more : (fs : List Field) (f : Field) → RightForm true fs f → cardWhole fs ≡ true → ofTrace (f .tag) ≡ false → ⊥
-unfolding mayCome mayFollow cardWhole
-no-more fs f h w o = let e : false ≡ true = rw (w, o) at (h .tag) in let z : _≡_ {A = ℕ} 0 1 = cc in omega arith
-
-pub entry-tag : (t : ℕ) → ofEntry t ≡ true → ofTrace t ≡ true
-unfolding ofTrace
-entry-tag t e = rw e
-
-pub end-tag : (t : ℕ) → t ≡ 33 → ofTrace t ≡ true
-unfolding ofTrace ofEntry
-end-tag t e = rw e
-
--- an entry's tag is 32 or 34
-pub entry-high : (t : ℕ) → ofEntry t ≡ true → 31 < t
-unfolding ofEntry
-entry-high t e = ⊎-elim
-    (λ (p : (t ≡ 32) × (eqb t 32 ≡ true)). omega (arith, p .0))
-    (λ (p : (t ≡ 32 → ⊥) × (eqb t 32 ≡ false)). let q = eqb-true t 34 (rw (p .1) at e) in omega (arith, q))
-    (eq-cases t 32)
-
--- the tags of a right card lie within the table's groups
-within-next : (fs : List Field) (t : ℕ) → Follows fs t → (fs ≡ []) ⊎ Within groups (lastTag fs) → Within groups t
-within-next fs t (begins w l g) p = begins-within t g
-within-next fs t (goes-on w e) (inl n) = rw (e, n) (unfold lastTag in first-within)
-within-next fs t (goes-on w e) (inr p) = rw e (next-within (lastTag fs) p (unfold cardWhole in w))
-
-within : (fs : List Field) → CardRight fs → (fs ≡ []) ⊎ Within groups (lastTag fs)
-unfolding lastTag CardRight
-within [] r = inl refl
-within (f ∷ fs) r = inr (within-next fs (f .tag) (follows f fs (r .0) (r .1)) (within fs (r .3)))
-
-pub next-small : (fs : List Field) → CardRight fs → cardWhole fs ≡ false → suc (lastTag fs) < 32
-unfolding cardWhole
-next-small fs r w = go fs w (within fs r)
-  where
-    go : (fs : List Field) → endsGroup groups (lastTag fs) ≡ false → (fs ≡ []) ⊎ Within groups (lastTag fs) → suc (lastTag fs) < 32
-    go fs w (inl e) = rw e (unfold lastTag in omega arith)
-    go fs w (inr p) = within-small (suc (lastTag fs)) (next-within (lastTag fs) p w)
-
--- they rise, so a card has no more fields than its newest tag says
-pub tags-rise : (fs : List Field) → CardRight fs → length fs ≤ lastTag fs
-unfolding lastTag CardRight
-tags-rise [] r = omega arith
-tags-rise (f ∷ fs) r = go (follows f fs (r .0) (r .1)) (tags-rise fs (r .3))
-  where
-    go : Follows fs (f .tag) → length fs ≤ lastTag fs → suc (length fs) ≤ f .tag
-    go (begins w l g) h = omega arith
-    go (goes-on w e) h = omega arith
-
-pub tag-below : (fs : List Field) → CardRight fs → lastTag fs < 32
-tag-below fs r = ⊎-elim
-    (λ (e : fs ≡ []). rw e (unfold lastTag in omega arith))
-    (λ (p : Within groups (lastTag fs)). within-small (lastTag fs) p)
-    (within fs r)
-
--- a field of the card that may come has a tag of the table
-pub card-tag : {b : Bool} (fs : List Field) (f : Field) → CardRight fs → RightForm b fs f → ofTrace (f .tag) ≡ false → (1 ≤ f .tag) × ((f .tag ≤ 23) ⊎ ((f .tag ≡ 25) ⊎ (f .tag ≡ 26)))
-unfolding Within groups _upTo_
-card-tag fs f r h o = bounds (f .tag) (within-next fs (f .tag) (follows f fs h o) (within fs r))
-  where
-    bounds : (t : ℕ) → Within groups t → (1 ≤ t) × ((t ≤ 23) ⊎ ((t ≡ 25) ⊎ (t ≡ 26)))
-    bounds t (inl p) = (p .0, inl (omega arith))
-    bounds t (inr (inl p)) = (omega arith, inl (omega arith))
-    bounds t (inr (inr (inl p))) = (omega arith, inl (p .1))
-    bounds t (inr (inr (inr (inl p)))) = (omega arith, inr (inl (omega arith)))
-    bounds t (inr (inr (inr (inr (inl p))))) = (omega arith, inr (inr (omega arith)))
-    bounds t (inr (inr (inr (inr (inr p))))) = absurd p
 
 data Kind (fs : List Field) (f : Field) : Type 0 where
   of-card : ofTrace (f .tag) ≡ false → Kind fs f
@@ -228,7 +115,7 @@ module _ (fs : List Field) (past : Past) (at : ℕ) where
       by-head : {cs : List ℕ} {h : Head} → HeadSays (begun past) fs cs h → StepSays fs past at cs (byHead fs past at h)
       by-head (is-whole f rest h) = by-kind f rest h (kind fs f r h)
       by-head (is-cut c) = unfold byHead in stops (one c)
-      by-head (is-bad-tag m) = unfold byHead in stops (two m)
+      by-head (is-bad-tag m) = unfold byHead wrongTag wrongAfter refusal _upTo_ in stops (tag m (wrong-is fs r (begun past) _ m) (expected-is fs r _))
       by-head (is-bad-length m g) = unfold byHead in stops (three m g)
 
   by-its-head : {bs : List ℕ} {h : Head} → HeadSays (begun past) fs bs h → stepOf fs past at bs ≡ byHead fs past at h
@@ -238,7 +125,8 @@ module _ (fs : List Field) (past : Past) (at : ℕ) where
   ends-only : CardRight fs → {bs : List ℕ} {v : FileVerdict} → Ends fs past at bs v → stepOf fs past at bs ≡ ends v
   unfolding cardStep entryStep endStep orRefused closing
   ends-only r (one c) = by-its-head (is-cut c) ∙ unfold byHead in refl
-  ends-only r (two m) = by-its-head (is-bad-tag m) ∙ unfold byHead in refl
+  ends-only r (tag {t = t} m w e) =
+      by-its-head (is-bad-tag m) ∙ unfold byHead wrongTag wrongAfter refusal _upTo_ in rw (wrong-only fs r (begun past) t w, expected-only fs r t e)
   ends-only r (three m g) = by-its-head (is-bad-length m g) ∙ unfold byHead in refl
   ends-only r (four f bs h w g) = by-its-head (is-whole f bs h) ∙ card-step f bs w ∙ rw g
   ends-only r (entry f bs x h w t p) =

@@ -39,6 +39,8 @@ pub mod Bytes
 pub mod Numbers
 pub mod Rounding
 pub mod Tags
+pub mod CardTags
+pub mod WrongTags
 pub mod FileHeads
 pub mod FileSteps
 pub mod FileExactly
@@ -55,6 +57,7 @@ pub mod Sound
 pub mod Walks
 pub mod Computed
 pub mod Starred
+pub mod Retold
 pub mod Timed
 pub mod Unprogrammed
 pub mod Mild

@@ -21,7 +21,7 @@ use Rattle.rules.specs.Verdict.{refreshCount}
 use Rattle.rules.specs.Form.{Field, Group, _upTo_, Listed, _of_, number, numberAt, timingOf, gapGood}
 use Rattle.rules.specs.File.{FileVerdict, accepted}
 use Rattle.rules.specs.Lines.{entryLine, verdictLine}
-use Rattle.rules.proofs.Walks.{Judge, judgedBy}
+use Rattle.rules.proofs.Walks.{Judge, two, judgedBy}
 use Rattle.rules.proofs.Timed.{timedRules, comeIn}
 
 -- ---- an entry is a stamp and pins: no field of another body comes
@@ -96,6 +96,7 @@ mildGood fs f =
 unfoldable pub mild : Judge
 mild = record {
   come = comeIn mildTrace mildGroups;
+  wrong = two;
   entry = mildEntry;
   taken = mildTaken;
   end = mildEnd;

@@ -143,6 +143,15 @@ use Rattle.rules.specs.Form.{
   ofTrace,
   mayFollow,
   mayCome,
+  inGroup,
+  inGroups,
+  ofCard,
+  known,
+  passedBy,
+  wrongNumber,
+  expectedAfter,
+  wrongAfter,
+  wrongTag,
   _of_,
   lengths,
   isListed,
@@ -212,6 +221,7 @@ use Rattle.rules.specs.Bench.{
   programmed,
   _sets_,
   warming,
+  ordering,
 }
 use Rattle.rules.proofs.Tests.{_&_}
 use Rattle.rules.proofs.Idle.{owedAt, next19, next20, after20, firstNext}
@@ -222,7 +232,7 @@ use Rattle.rules.proofs.Computed.{effectFor, ledgerThen, keptThen, kept
 
 -- names every definition that a case computes with
 unfoldable pub opened : Unit {0}
-unfolding Every all isOneOf when bits on bit roundedUp n rowCycle delaysOf heat mr4Good startMR4 quarters intervalAt isHot longer hotCard delaysAt code bare carries kindOf bankOf apOf is banks CAr CAf byLevels kindAt run maRuns opRuns bankRuns rowRuns columnRuns gathered scattered listedMA ofKind decode levels enabled encode encodePair row latencies atCode mr2Good rlOf wlOf recovery recoveries atPair nwrBy nwrOf mr1Good mayWrite depth sameLevel stopped isFall isRise risesFrom levelAfter fallBy fall rise readAt readPins seen selected readPair readAs senseAt readMR4 isOf partOf other bySelects whose parts ofPart readBody read readAfter whoseBody whoseOf partIn ownFor othersFor viewFor readFor commandOf recordedAs moveOf mr4Of fallsAs movesAs judgedAs taken takenFor pastWith levelAt writesMA registerAfter register mr2At mr1At modesAt mr4At counterAfter counterAt bankAt opens precharges closes openAfter isOpen isCounted stampsWhere countedStamps commandCount allClosed goes stateGood orElse firstOf latest back permitted permittedBy bound firstBroken latestOf laggingOf fourthOf latestIf latestMove to means unnoted notedOf found find lookBoth turned idleUse precharged without from lagging recovering across rule delayRules lpddr3 every fallen nextAfter respaced takeOne failing earlier earliest beatBy refusal unless named isWrong isReserved isBarred isClash codeGood valueGood viewOf checks above notBelow within periodGood groupsGood trefiGood timingGood startGood raiseGood timings sleepTimings bytesOf sizeOf numberFrom number _upTo_ groups lastTag endsGroup beginsGroup cardWhole ofEntry ofTrace mayFollow mayCome _of_ lengths isListed lengthGood valued sized headOf timingOf valueOf has numberAt numberIf timingAt cardOf gapGood fieldGood bodyOf entryOf endOf sum refreshCount begun orRefused cardStep closing bigEndian fieldBytes entryBytes digits decimal signed nameOf showsBank shownPart entryLine unlessSensed entryLines ledgerParts verdictLine numberOf isThere noEffect countedTo refreshedAt sensedAt atLevel failingOf freshShare accepts timing onlyIf benchWith benchAt bench sleeper pair heater hotPair tight timingFields startField cardFile bodyBytes entriesFile endFile file _at_ eightRefreshes fourActs starred further _low_ sevenRefreshes sleeping _at₀_ _at₁_ bothOpen paired starts again unhurried programmed _sets_ warming owedAt next19 next20 after20 firstNext relabel biased ledgerClosed failingClosed headBy entryBy endBy byHeadBy stepBy fileBy judgedBy effectFor ledgerThen keptThen keptOver failingsFrom failingsAt entryFrom endFrom owingsFrom computing computed
+unfolding Every all isOneOf when bits on bit roundedUp n rowCycle delaysOf heat mr4Good startMR4 quarters intervalAt isHot longer hotCard delaysAt code bare carries kindOf bankOf apOf is banks CAr CAf byLevels kindAt run maRuns opRuns bankRuns rowRuns columnRuns gathered scattered listedMA ofKind decode levels enabled encode encodePair row latencies atCode mr2Good rlOf wlOf recovery recoveries atPair nwrBy nwrOf mr1Good mayWrite depth sameLevel stopped isFall isRise risesFrom levelAfter fallBy fall rise readAt readPins seen selected readPair readAs senseAt readMR4 isOf partOf other bySelects whose parts ofPart readBody read readAfter whoseBody whoseOf partIn ownFor othersFor viewFor readFor commandOf recordedAs moveOf mr4Of fallsAs movesAs judgedAs taken takenFor pastWith levelAt writesMA registerAfter register mr2At mr1At modesAt mr4At counterAfter counterAt bankAt opens precharges closes openAfter isOpen isCounted stampsWhere countedStamps commandCount allClosed goes stateGood orElse firstOf latest back permitted permittedBy bound firstBroken latestOf laggingOf fourthOf latestIf latestMove to means unnoted notedOf found find lookBoth turned idleUse precharged without from lagging recovering across rule delayRules lpddr3 every fallen nextAfter respaced takeOne failing earlier earliest beatBy refusal unless named isWrong isReserved isBarred isClash codeGood valueGood viewOf checks above notBelow within periodGood groupsGood trefiGood timingGood startGood raiseGood timings sleepTimings bytesOf sizeOf numberFrom number _upTo_ groups lastTag endsGroup beginsGroup cardWhole ofEntry ofTrace mayFollow mayCome inGroup inGroups ofCard known passedBy wrongNumber expectedAfter wrongAfter wrongTag _of_ lengths isListed lengthGood valued sized headOf timingOf valueOf has numberAt numberIf timingAt cardOf gapGood fieldGood bodyOf entryOf endOf sum refreshCount begun orRefused cardStep closing bigEndian fieldBytes entryBytes digits decimal signed nameOf showsBank shownPart entryLine unlessSensed entryLines ledgerParts verdictLine numberOf isThere noEffect countedTo refreshedAt sensedAt atLevel failingOf freshShare accepts timing onlyIf benchWith benchAt bench sleeper pair heater hotPair tight timingFields startField cardFile bodyBytes entriesFile endFile file _at_ eightRefreshes fourActs starred further _low_ sevenRefreshes sleeping _at₀_ _at₁_ bothOpen paired starts again unhurried programmed _sets_ warming ordering owedAt next19 next20 after20 firstNext relabel biased ledgerClosed failingClosed headBy entryBy endBy byHeadBy stepBy fileBy judgedBy effectFor ledgerThen keptThen keptOver failingsFrom failingsAt entryFrom endFrom owingsFrom computing computed
 opened = tt
 
 -- a case whose verdict is computed with the account in closed form
@@ -286,6 +296,12 @@ warming-computes =
     refl & refl & refl & refl & refl & refl & refl & refl & refl & refl & refl & refl & refl & refl & refl & refl & refl & refl & refl & refl &
     refl & refl & refl & refl & tt
 
+ordering-computes : Every Computes ordering
+unfolding opened Computes
+ordering-computes =
+    refl & refl & refl & refl & refl & refl & refl & refl & refl & refl & refl & refl & refl & refl & refl & refl & refl & refl & refl & refl &
+    refl & refl & refl & refl & refl & refl & refl & refl & refl & tt
+
 pub starred-hold : Every Shown starred
 starred-hold = all-shown starred starred-computes
 
@@ -303,3 +319,6 @@ programmed-hold = all-shown programmed programmed-computes
 
 pub warming-hold : Every Shown warming
 warming-hold = all-shown warming warming-computes
+
+pub ordering-hold : Every Shown ordering
+ordering-hold = all-shown ordering ordering-computes

@@ -23,7 +23,7 @@ use Rattle.rules.specs.Checks.{Refusal, unless, named, isWrong, isReserv
 use Rattle.rules.specs.Form.{Field, Group, _upTo_, lastTag, endsGroup, beginsGroup, ofTrace, Listed, _of_, number, numberAt, timingOf, gapGood}
 use Rattle.rules.specs.File.{FileVerdict}
 use Rattle.rules.specs.Lines.{entryLines, verdictLine}
-use Rattle.rules.proofs.Walks.{Judge, judgedBy, defined}
+use Rattle.rules.proofs.Walks.{Judge, two, judgedBy, defined}
 
 -- ---- rule 18 goes by n(tWR), as rule 17 does
 unfoldable pub timedRules : Delays → Command → Move → ℕ → List (Rule Asked Modes)
@@ -81,6 +81,7 @@ timedGood fs f =
 unfoldable pub timed : Judge
 timed = record {
   come = comeIn ofTrace timedGroups;
+  wrong = two;
   entry = timedEntry;
   taken = defined .taken;
   end = defined .end;

@@ -1,11 +1,11 @@
 -- A file without tags 26 and 34 has the verdict and the lines that it had before temperature: every file had, just before nWR, unless tag 26 stands where its card
--- could end and before its first entry, or tag 34 behind a whole card, where it was refused by 2. By `Unprogrammed` every file has still, unless tag 23, 26 or 34
--- stands so or an entry that was taken writes MA 1.
+-- could end and before its first entry, or tag 34 behind a whole card, where it was refused by 2. By `Unprogrammed` every file had just before request Three, unless
+-- tag 23, 26 or 34 stands so or an entry that was taken writes MA 1; by `Retold` it has still, up to what was told anew.
 use Prim.Native.Nat.{ℕ, suc, _≤_, _<_}
 use mathlib.Core.Path.{_≡_, refl, ap, sym, _∙_, fun-ext}
 use mathlib.Core.Logic.{_⊎_, inl, inr, ⊎-elim}
 use mathlib.Core.Bool.{Bool, true, false, cond, not, _&&_, _||_, and-false, or-false}
-use mathlib.Core.List.{List, [], _∷_, _++_, map}
+use mathlib.Core.List.{List, [], _∷_, map}
 use mathlib.Core.Option.{none}
 use native.Mathlib.Omega.{arith}
 use lib.Dec.{leb, ltb, eqb}
@@ -25,15 +25,17 @@ use Rattle.rules.specs.Entries.{Entry, readBody, read, readAfter, ownFor
 use Rattle.rules.specs.Checks.{unless, codeGood, endChecks, endRefusal}
 use Rattle.rules.specs.Verdict.{refreshCount, ledgersAt}
 use Rattle.rules.specs.Form.{Field, Group, _upTo_, lastTag, endsGroup, beginsGroup, cardWhole, ofEntry, ofTrace, mayCome, _of_, isListed, lengthGood, cardOf, fieldGood, bodyOf, entryOf}
-use Rattle.rules.specs.File.{accepted, begun, Judged, judged, judgeFile}
+use Rattle.rules.specs.File.{accepted, begun, Judged, judgeFile}
 use Rattle.rules.specs.FileReading.{CardRight}
-use Rattle.rules.specs.Lines.{unlessSensed, entryLines, verdictLine, linesOf}
+use Rattle.rules.specs.Lines.{unlessSensed, entryLines, linesOf}
 use Rattle.rules.proofs.Tests.{eq-cases, both-true}
 use Rattle.rules.proofs.PinReads.{read-is}
 use Rattle.rules.proofs.Rounding.{interval-start}
 use Rattle.rules.proofs.CardRead.{card-good}
 use Rattle.rules.proofs.Paces.{pins-senseless}
+use Rattle.rules.proofs.Tags.{begins-has}
 use Rattle.rules.proofs.Walks.{judgedBy, defined, Newer, Met, TagTests, tests-as, still-comes, Enters, Alike, agree, behind-it, all-have}
+use Rattle.rules.proofs.Retold.{curt, Retold, LinesRetold, verdict-by, lines-by}
 use Rattle.rules.proofs.Timed.{timedEntry, comeIn, timedGroups, timedLengths, timedGood, timed}
 use Rattle.rules.proofs.Unprogrammed.{ends-more, come-more, never-comes, whole-as-timed, timed-comes, Programmed, Unprogrammed, not-programmed, as-timed, length-as-timed, good-as-timed}
 use Rattle.rules.proofs.Mild.{pinsOf, pinned, mildTaken, mildBook, mildBooks, mildEntry, mildEnd, mildVerdict, mildTrace, mildGroups, mildLengths, mildGood, mild, judgeMild, mildLines, linesMild}
@@ -111,16 +113,6 @@ module _ (card : Card) (good : cardGood card ≡ true) (past : Past) (c : Cool p
   same-verdict end = rw (cool-books card good past c)
 
 -- ---- the tags
-begins-low : (top : ℕ) (gs : List Group) → all (λ g. leb (g .first) top) gs ≡ true → (t : ℕ) → beginsGroup gs t ≡ true → t ≤ top
-unfolding all beginsGroup
-begins-low top [] h t b = let z : _≡_ {A = ℕ} 0 1 = cc in absurd (omega arith)
-begins-low top (g ∷ gs) h t b =
-    let p = both-true (leb (g .first) top) (all (λ g. leb (g .first) top) gs) h in
-    ⊎-elim
-    (λ (q : (g .first ≡ t) × (eqb (g .first) t ≡ true)). omega (arith, q .0, leb-true (g .first) top (p .0)))
-    (λ (q : (g .first ≡ t → ⊥) × (eqb (g .first) t ≡ false)). begins-low top gs (p .1) t (rw (q .1) at b))
-    (eq-cases (g .first) t)
-
 -- a field of the card keeps the tags low
 pub card-low : (top : ℕ) (gs : List Group) → all (λ g. leb (g .first) top) gs ≡ true → endsGroup gs top ≡ true →
     (b : Bool) (fs : List Field) (t : ℕ) → lastTag fs ≤ top → comeIn mildTrace gs b fs t ≡ true → ofTrace t ≡ false → t ≤ top
@@ -129,7 +121,7 @@ card-low top gs firsts last b fs t low m o = go (endsGroup gs (lastTag fs)) refl
   where
     go : (w : Bool) → endsGroup gs (lastTag fs) ≡ w → (x y z b : Bool) → ((x || y) || z) ≡ false →
         cond w ((x || z) || (not b && (ltb (lastTag fs) t && beginsGroup gs t))) (eqb t (suc (lastTag fs))) ≡ true → t ≤ top
-    go true w false false false false o m = begins-low top gs firsts t (both-true (ltb (lastTag fs) t) (beginsGroup gs t) m .1)
+    go true w false false false false o m = leb-true t top (begins-has (λ n. leb n top) gs firsts t (both-true (ltb (lastTag fs) t) (beginsGroup gs t) m .1))
     go true w false false false true o m = let z : _≡_ {A = ℕ} 0 1 = cc in absurd (omega arith)
     go true w false false true b o m = let z : _≡_ {A = ℕ} 0 1 = cc in absurd (omega arith)
     go true w false true z b o m = let z : _≡_ {A = ℕ} 0 1 = cc in absurd (omega arith)
@@ -201,6 +193,7 @@ unfolding defined timed mild
 alike fs past r q = record {
   tag = tag-as-mild (begun past) fs (q .0) (q .1);
   known = mild-comes (begun past) fs (q .0) (q .1);
+  wrong = λ t. refl;
   card = λ f b m o. (unfold lastTag in low f m o, unfold lastTag in other-tag f m, q .2);
   entry = λ f n. ap (timedEntry (cardOf fs) past) (sym (as-pins f n)) ∙ same-entry (cardOf fs) (card-good fs r (n .whole)) past (q .2) (entryOf f);
   taken = λ f n. ap (takenFor (cardOf fs) past) (sym (as-pins f n)) ∙ same-taken (cardOf fs) past (entryOf f);
@@ -221,10 +214,11 @@ alike fs past r q = record {
 module _ (bytes : List ℕ) where
   -- just before nWR the entries taken and the verdict were what they had been, or tag 26 or 34 stands where it was a wrong tag
   pub as-mild : (judgedBy timed bytes ≡ judgedBy mild bytes) ⊎ Heated bytes (judgedBy mild bytes)
+  unfolding mild
   as-mild = agree timed mild Tag26or34 Also alike bytes (unfold lastTag Cool in (omega arith, (λ e. omega (arith, e)), tt))
 
-  -- and they are still, or tag 23, 26 or 34 stands so, or an entry that was taken writes MA 1
-  pub mild-ever : (judged bytes ≡ judgedBy mild bytes) ⊎ (Heated bytes (judgedBy mild bytes) ⊎ Programmed bytes (judgedBy mild bytes))
+  -- and just before request Three they were still, or tag 23, 26 or 34 stands so, or an entry that was taken writes MA 1
+  pub mild-ever : (judgedBy curt bytes ≡ judgedBy mild bytes) ⊎ (Heated bytes (judgedBy mild bytes) ⊎ Programmed bytes (judgedBy mild bytes))
   mild-ever = behind-it (Programmed bytes) as-mild (as-timed bytes)
 
 -- ---- the lines
@@ -235,24 +229,21 @@ cool-lines (e ∷ t) c = rw (c .0, cool-lines t (c .1))
 
 -- ---- a file without tags 23, 26 and 34, of which no entry that was taken writes MA 1
 module _ (bytes : List ℕ) (unheated : Unheated bytes) (unprogrammed : Unprogrammed bytes (judgedBy mild bytes)) where
-  same-mild : judged bytes ≡ judgedBy mild bytes
+  same-mild : judgedBy curt bytes ≡ judgedBy mild bytes
   same-mild = ⊎-elim
-      (λ (e : judged bytes ≡ judgedBy mild bytes). e)
+      (λ (e : judgedBy curt bytes ≡ judgedBy mild bytes). e)
       (⊎-elim
       (λ (h : Heated bytes (judgedBy mild bytes)). absurd (unheated (h .there)))
       (λ (p : Programmed bytes (judgedBy mild bytes)). absurd (not-programmed bytes _ unprogrammed p)))
       (mild-ever bytes)
 
-  pub verdict-as-mild : judgeFile bytes ≡ judgeMild bytes
-  unfolding judgeFile judgeMild
-  verdict-as-mild = ap (λ (j : Judged). j .verdict) same-mild
+  pub verdict-as-mild : Retold (judgeMild bytes) (judgeFile bytes)
+  unfolding judgeMild
+  verdict-as-mild = verdict-by bytes _ same-mild
 
-  pub lines-as-mild : linesOf bytes ≡ linesMild bytes
-  unfolding linesOf linesMild
-  lines-as-mild =
-      ap (λ (j : Judged). entryLines (j .past) ++ verdictLine (j .verdict)) same-mild
-      ∙ ap (λ (l : List ℕ). l ++ verdictLine (judgedBy mild bytes .verdict))
-      (cool-lines (judgedBy mild bytes .past) (all-have mild Cool (unfold mild in cool-next) bytes (unfold Cool in tt)))
+  pub lines-as-mild : LinesRetold (linesMild bytes) (linesOf bytes)
+  unfolding linesMild
+  lines-as-mild = lines-by bytes _ same-mild _ (cool-lines (judgedBy mild bytes .past) (all-have mild Cool (unfold mild in cool-next) bytes (unfold Cool in tt)))
 
 -- ---- what that judge shares with the definitions is as it was for it: the lengths and the ranges of all tags but these
 pub length-as-mild : (t l : ℕ) → (t ≡ 23 → ⊥) → (t ≡ 26 → ⊥) → (t ≡ 34 → ⊥) → lengthGood t l ≡ isListed mildLengths t l

@@ -1,5 +1,6 @@
--- A file without tag 23 in its card, of which no entry that was taken writes MA 1, has the verdict and the lines that it had before nWR: every file has, unless
--- tag 23 stands where its card could end, before its first entry and behind no later tag, where it was refused by 2, or an entry that was taken writes MA 1.
+-- A file without tag 23 in its card, of which no entry that was taken writes MA 1, has the verdict and the lines that it had before nWR, up to
+-- what request Three told anew: every file had, just before that, unless tag 23 stands where its card could end, before its first entry and behind no later tag,
+-- where it was refused by 2, or an entry that was taken writes MA 1.
 use Prim.Native.Nat.{ℕ, zero, suc, _+_, _≤_, _<_}
 use mathlib.Core.Path.{_≡_, refl, ap, sym, _∙_}
 use mathlib.Core.Logic.{_⊎_, inl, inr, ⊎-elim}
@@ -23,11 +24,12 @@ use Rattle.rules.specs.Delays.{Ask, lastWRA-to, Question, Asked, mine, L
 use Rattle.rules.specs.Entries.{Entry, viewOf, ownFor, viewFor, readFor, moveOf, judgedAs, takenFor}
 use Rattle.rules.specs.Checks.{checks, entryChecks, entryRefusal}
 use Rattle.rules.specs.Form.{Field, Group, _upTo_, groups, lastTag, endsGroup, beginsGroup, cardWhole, ofEntry, ofTrace, mayFollow, mayCome, _of_, lengths, isListed, lengthGood, has, numberIf, cardOf, fieldGood, entryOf}
-use Rattle.rules.specs.File.{begun, Judged, judged, judgeFile}
+use Rattle.rules.specs.File.{begun, Judged, judgeFile}
 use Rattle.rules.specs.FileReading.{CardRight}
-use Rattle.rules.specs.Lines.{entryLines, verdictLine, linesOf}
+use Rattle.rules.specs.Lines.{linesOf}
 use Rattle.rules.proofs.Tests.{lt-cases, eq-cases}
-use Rattle.rules.proofs.Walks.{judgedBy, defined, defined-judged, Newer, Met, TagTests, tests-as, still-comes, Alike, agree-until}
+use Rattle.rules.proofs.Walks.{judgedBy, defined, Newer, Met, TagTests, tests-as, still-comes, Alike, agree-until}
+use Rattle.rules.proofs.Retold.{curt, Retold, LinesRetold, verdict-by, lines-by}
 use Rattle.rules.proofs.Timed.{timedRules, timedEntry, comeIn, timedGroups, timedLengths, timedGood, timed, judgeTimed, linesTimed}
 
 -- ---- an entry that was taken writes MA 1, or none does
@@ -239,11 +241,12 @@ not-programmed bytes j u (inr w) = u .1 w
 abbrev Also : List Field → Past → Type 0
 Also fs past = (has 23 fs ≡ false) × Unwritten past
 
-alike : (fs : List Field) (past : Past) → CardRight fs → Also fs past → Alike defined timed Tag23 (λ fs past. Also fs past ⊎ Written past) fs past
-unfolding defined timed
+alike : (fs : List Field) (past : Past) → CardRight fs → Also fs past → Alike curt timed Tag23 (λ fs past. Also fs past ⊎ Written past) fs past
+unfolding defined curt timed
 alike fs past r q = record {
   tag = tag-as-timed (begun past) fs (last-has 22 fs (q .0));
   known = timed-comes (begun past) fs (last-has 22 fs (q .0));
+  wrong = λ t. refl;
   card = λ f b m o. inl (unfold has in rw (ne-eqb (f .tag) 23 (other-tag f m)) (q .0), q .1);
   entry = λ f n. same-entry (cardOf fs) (unfold cardOf numberIf in rw (q .0)) past (q .1) (entryOf f);
   taken = λ f n. refl;
@@ -259,26 +262,26 @@ alike fs past r q = record {
     other-tag f = unfold timedGroups beginsGroup endsGroup ofTrace ofEntry _upTo_ in never-comes ofTrace timedGroups 22 refl refl refl (begun past) fs (f .tag)
 
 module _ (bytes : List ℕ) where
-  -- the entries taken and the verdict are what they were, or tag 23 stands where it was a wrong tag, or an entry that was taken writes MA 1
-  pub as-timed : (judged bytes ≡ judgedBy timed bytes) ⊎ Programmed bytes (judgedBy timed bytes)
-  as-timed = rw (← defined-judged bytes)
-      (agree-until defined timed Tag23 Also Written (λ card past e. written-next (timed .taken card past e) past) alike bytes (unfold has Unwritten in (refl, tt)))
+  -- just before request Three the entries taken and the verdict were what they had been, or tag 23 stands where it was a wrong tag, or an entry that was taken writes MA 1
+  pub as-timed : (judgedBy curt bytes ≡ judgedBy timed bytes) ⊎ Programmed bytes (judgedBy timed bytes)
+  unfolding timed
+  as-timed = agree-until curt timed Tag23 Also Written (λ card past e. written-next (timed .taken card past e) past) alike bytes (unfold has Unwritten in (refl, tt))
 
 -- ---- a file with neither
 module _ (bytes : List ℕ) (unprogrammed : Unprogrammed bytes (judgedBy timed bytes)) where
-  same-timed : judged bytes ≡ judgedBy timed bytes
+  same-timed : judgedBy curt bytes ≡ judgedBy timed bytes
   same-timed = ⊎-elim
-      (λ (e : judged bytes ≡ judgedBy timed bytes). e)
+      (λ (e : judgedBy curt bytes ≡ judgedBy timed bytes). e)
       (λ (p : Programmed bytes (judgedBy timed bytes)). absurd (not-programmed bytes _ unprogrammed p))
       (as-timed bytes)
 
-  pub verdict-as-timed : judgeFile bytes ≡ judgeTimed bytes
-  unfolding judgeFile judgeTimed
-  verdict-as-timed = ap (λ (j : Judged). j .verdict) same-timed
+  pub verdict-as-timed : Retold (judgeTimed bytes) (judgeFile bytes)
+  unfolding judgeTimed
+  verdict-as-timed = verdict-by bytes _ same-timed
 
-  pub lines-as-timed : linesOf bytes ≡ linesTimed bytes
-  unfolding linesOf linesTimed
-  lines-as-timed = ap (λ (j : Judged). entryLines (j .past) ++ verdictLine (j .verdict)) same-timed
+  pub lines-as-timed : LinesRetold (linesTimed bytes) (linesOf bytes)
+  unfolding linesTimed
+  lines-as-timed = lines-by bytes _ same-timed _ refl
 
 -- ---- what that judge shares with the definitions is as it was for it: the lengths and the ranges of all tags but 23
 pub length-as-timed : (t l : ℕ) → (t ≡ 23 → ⊥) → lengthGood t l ≡ isListed timedLengths t l

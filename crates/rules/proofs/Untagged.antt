@@ -1,6 +1,6 @@
 -- A file without tag 25 in its card has the verdict and the lines that it had before two parts could share a bus: every file had, just before temperature,
--- unless tag 25 stands where its card could end, where it was refused by 2. By `Unheated` every file has still, unless tag 23, 25, 26 or 34
--- stands so or an entry that was taken writes MA 1.
+-- unless tag 25 stands where its card could end, where it was refused by 2. By `Unheated` every file had just before request Three, unless tag 23,
+-- 25, 26 or 34 stands so or an entry that was taken writes MA 1; by `Retold` it has still, up to what was told anew.
 use Prim.Native.Nat.{ℕ, zero, suc, _+_, _-_, _≤_, _<_}
 use mathlib.Core.Path.{_≡_, refl, ap, sym, _∙_, fun-ext}
 use mathlib.Core.Logic.{_⊎_, ⊎-elim}
@@ -24,14 +24,15 @@ use Rattle.rules.specs.Entries.{Entry, viewOf, readBody, read, readAfter
 use Rattle.rules.specs.Checks.{unless, isClash}
 use Rattle.rules.specs.Verdict.{sum, refreshCount}
 use Rattle.rules.specs.Form.{Field, _upTo_, lastTag, endsGroup, beginsGroup, cardWhole, ofTrace, mayCome, _of_, isListed, lengthGood, has, cardOf, fieldGood, entryOf}
-use Rattle.rules.specs.File.{begun, Judged, judged, judgeFile}
+use Rattle.rules.specs.File.{begun, Judged, judgeFile}
 use Rattle.rules.specs.FileReading.{CardRight}
-use Rattle.rules.specs.Lines.{shownPart, entryLine, entryLines, verdictLine, linesOf}
+use Rattle.rules.specs.Lines.{shownPart, entryLine, entryLines, linesOf}
 use Rattle.rules.proofs.Tests.{_&_}
 use Rattle.rules.proofs.PinReads.{pins-are}
 use Rattle.rules.proofs.Waking.{read-alone}
 use Rattle.rules.proofs.Table.{every-both}
 use Rattle.rules.proofs.Walks.{judgedBy, Newer, Met, TagTests, tests-as, still-comes, Alike, agree, behind-it, all-have}
+use Rattle.rules.proofs.Retold.{curt, Retold, LinesRetold, verdict-by, lines-by}
 use Rattle.rules.proofs.Timed.{timedRules, comeIn}
 use Rattle.rules.proofs.Unprogrammed.{ends-more, come-more, Programmed, Unprogrammed, not-programmed}
 use Rattle.rules.proofs.Mild.{pinsOf, pinned, mildTaken, mildBook, mildBooks, mildEntry, mildEnd, mildVerdict, mildTrace, mildGroups, mildLengths, mildGood, mild, mildLines}
@@ -213,6 +214,7 @@ unfolding mild alone
 alike fs past r q = record {
   tag = tag-as-alone (begun past) fs (q .low);
   known = alone-comes (begun past) fs (q .low);
+  wrong = λ t. refl;
   card = λ f b m o. let l = small f m o in record { low = unfold lastTag in l; without = unfold has in rw (ne-eqb (f .tag) 25 (λ e. omega (arith, e, l))) (q .without); only = q .only };
   entry = λ f n. same-entry (cardOf fs) one past (q .only) (entryOf f);
   taken = λ f n. same-taken (cardOf fs) one past (q .only) (entryOf f);
@@ -230,10 +232,11 @@ alike fs past r q = record {
 module _ (bytes : List ℕ) where
   -- just before temperature the entries taken and the verdict were what they had been, or tag 25 stands where it was a wrong tag
   pub as-alone : (judgedBy mild bytes ≡ judgedBy alone bytes) ⊎ Paired bytes (judgedBy alone bytes)
+  unfolding alone
   as-alone = agree mild alone Tag25 Also alike bytes (record { low = unfold lastTag in omega arith; without = unfold has in refl; only = unfold Sole in tt })
 
-  -- and they are still, or tag 23, 25, 26 or 34 stands so, or an entry that was taken writes MA 1
-  pub alone-ever : (judged bytes ≡ judgedBy alone bytes)
+  -- and just before request Three they were still, or tag 23, 25, 26 or 34 stands so, or an entry that was taken writes MA 1
+  pub alone-ever : (judgedBy curt bytes ≡ judgedBy alone bytes)
       ⊎ (Paired bytes (judgedBy alone bytes) ⊎ (Heated bytes (judgedBy alone bytes) ⊎ Programmed bytes (judgedBy alone bytes)))
   alone-ever = behind-it (λ j. Heated bytes j ⊎ Programmed bytes j) as-alone (mild-ever bytes)
 
@@ -249,24 +252,18 @@ lines-same (e ∷ t) s =
     let z : ofPart (partOf (e .whose)) t ≡ t = ap (λ (w : Whose). ofPart (partOf w) t) (s .0) ∙ (unfold partOf in own-sole t (s .1)) in
     rw (z, line-same (e .stamp) (e .cmd) (e .whose) (counterAt t) (s .0), lines-same t (s .1))
 
-pub alone-lines : (bytes : List ℕ) → judged bytes ≡ judgedBy alone bytes → linesOf bytes ≡ linesAlone bytes
-unfolding linesOf linesAlone
-alone-lines bytes e =
-    ap (λ (j : Judged). entryLines (j .past) ++ verdictLine (j .verdict)) e
-    ∙ ap (λ (l : List ℕ). l ++ verdictLine (judgedBy alone bytes .verdict))
-    (cool-lines past (all-have alone Cool (unfold alone in cool-on) bytes (unfold Cool in tt)) ∙ lines-same past (all-have alone Sole (unfold alone in sole-next) bytes (unfold Sole in tt)))
+pub alone-lines : (bytes : List ℕ) → let past = judgedBy alone bytes .past in entryLines past ≡ aloneLines past
+alone-lines bytes =
+    cool-lines _ (all-have alone Cool (unfold alone in cool-on) bytes (unfold Cool in tt)) ∙ lines-same _ (all-have alone Sole (unfold alone in sole-next) bytes (unfold Sole in tt))
   where
-    past : Past
-    past = judgedBy alone bytes .past
-
     cool-on : (card : Card) (past : Past) (e : Entry) → Cool past → Cool (aloneTaken card past e ∷ past)
     cool-on card past e c = unfold Cool aloneTaken in (refl, c)
 
 -- ---- a file without tags 23, 25, 26 and 34, of which no entry that was taken writes MA 1
 module _ (bytes : List ℕ) (untagged : Untagged bytes) (unheated : Unheated bytes) (unprogrammed : Unprogrammed bytes (judgedBy alone bytes)) where
-  same-alone : judged bytes ≡ judgedBy alone bytes
+  same-alone : judgedBy curt bytes ≡ judgedBy alone bytes
   same-alone = ⊎-elim
-      (λ (e : judged bytes ≡ judgedBy alone bytes). e)
+      (λ (e : judgedBy curt bytes ≡ judgedBy alone bytes). e)
       (⊎-elim
       (λ (p : Paired bytes (judgedBy alone bytes)). absurd (untagged (p .there)))
       (⊎-elim
@@ -274,12 +271,13 @@ module _ (bytes : List ℕ) (untagged : Untagged bytes) (unheated : Unheated byt
       (λ (p : Programmed bytes (judgedBy alone bytes)). absurd (not-programmed bytes _ unprogrammed p))))
       (alone-ever bytes)
 
-  pub verdict-as-alone : judgeFile bytes ≡ judgeAlone bytes
-  unfolding judgeFile judgeAlone
-  verdict-as-alone = ap (λ (j : Judged). j .verdict) same-alone
+  pub verdict-as-alone : Retold (judgeAlone bytes) (judgeFile bytes)
+  unfolding judgeAlone
+  verdict-as-alone = verdict-by bytes _ same-alone
 
-  pub lines-as-alone : linesOf bytes ≡ linesAlone bytes
-  lines-as-alone = alone-lines bytes same-alone
+  pub lines-as-alone : LinesRetold (linesAlone bytes) (linesOf bytes)
+  unfolding linesAlone
+  lines-as-alone = lines-by bytes _ same-alone _ (alone-lines bytes)
 
 -- ---- what that judge shares with the definitions is as it was for it: the lengths and the ranges of all tags but these
 pub length-as-alone : (t l : ℕ) → (t ≡ 23 → ⊥) → (t ≡ 25 → ⊥) → (t ≡ 26 → ⊥) → (t ≡ 34 → ⊥) → lengthGood t l ≡ isListed aloneLengths t l

@@ -17,16 +17,17 @@ use Rattle.rules.specs.Past.{Taken, Past, commandCount}
 use Rattle.rules.specs.Entries.{Entry, takenFor, pastWith}
 use Rattle.rules.specs.Checks.{Refusal, entryRefusal, endRefusal}
 use Rattle.rules.specs.Verdict.{refreshCount, ledgersAt}
-use Rattle.rules.specs.Form.{Field, bytesOf, sizeOf, cardWhole, ofEntry, ofTrace, mayFollow, mayCome, lengthGood, Head, whole, cut, badTag, badLength, valued, sized, headOf, cardOf, fieldGood, entryOf, endOf}
+use Rattle.rules.specs.Form.{Field, bytesOf, sizeOf, cardWhole, ofEntry, ofTrace, mayFollow, mayCome, wrongTag, lengthGood, Head, whole, cut, badTag, badLength, valued, sized, headOf, cardOf, fieldGood, entryOf, endOf}
 use Rattle.rules.specs.File.{FileVerdict, accepted, refused, Step, goesOn, ends, orRefused, cardStep, entryStep, acceptedAt, closing, endStep, byHead, begun, stepOf, Judged, fileFrom, judged}
 use Rattle.rules.specs.FileReading.{RightForm, CardRight, EntryField, cardBytes, entriesBytes}
 use Rattle.rules.proofs.Table.{every-both}
 use Rattle.rules.proofs.FileHeads.{by-value}
-use Rattle.rules.proofs.FileSteps.{any-form, no-more, entry-tag, entry-high, next-small}
+use Rattle.rules.proofs.CardTags.{any-form, no-more, entry-tag, entry-high, next-small}
 
--- which tag may come; what refuses an entry, and what it is taken as; what refuses an end, and the verdict there
+-- which tag may come, and what refuses one that may not; what refuses an entry, and what it is taken as; what refuses an end, and the verdict there
 pub record Judge : Type 0 where
   pub come : (entries : Bool) → List Field → ℕ → Bool
+  pub wrong : (entries : Bool) → List Field → ℕ → Refusal
   pub entry : Card → Past → Entry → Option Refusal
   pub taken : Card → Past → Entry → Taken
   pub end : Card → Past → ℕ → Option Refusal
@@ -35,7 +36,7 @@ pub record Judge : Type 0 where
 module _ (j : Judge) where
   unfoldable pub headBy : (entries : Bool) → List Field → List ℕ → Head
   headBy b fs [] = cut
-  headBy b fs (t ∷ bs) = cond (j .come b fs t) (sized t bs) badTag
+  headBy b fs (t ∷ bs) = cond (j .come b fs t) (sized t bs) (badTag (j .wrong b fs t))
 
   unfoldable pub entryBy : List Field → Past → ℕ → Field → List ℕ → Step
   entryBy fs past at f rest = orRefused at (j .entry (cardOf fs) past (entryOf f)) (goesOn fs (j .taken (cardOf fs) past (entryOf f) ∷ past) (at + sizeOf f) rest)
@@ -44,7 +45,7 @@ module _ (j : Judge) where
   endBy fs past at f rest = orRefused at (j .end (cardOf fs) past (endOf f)) (closing (j .verdict (cardOf fs) past (endOf f)) (at + sizeOf f) rest)
 
   -- a field is an entry, the end, or one of the card, and what it is not is not looked at; a judge that does not know a tag lets it not come
-  abbrev pick : List Field → Past → ℕ → Field → List ℕ → (entry end : Bool) → Step
+  abbrev pub pick : List Field → Past → ℕ → Field → List ℕ → (entry end : Bool) → Step
   pick fs past at f rest x y = elim x [
     | true ↦ entryBy fs past at f rest
     | false ↦ elim y [ true ↦ endBy fs past at f rest | false ↦ cardStep fs past at f rest ]
@@ -52,7 +53,7 @@ module _ (j : Judge) where
 
   unfoldable pub byHeadBy : List Field → Past → ℕ → Head → Step
   byHeadBy fs past at cut = ends (refused 1 0 at 0)
-  byHeadBy fs past at badTag = ends (refused 2 0 at 0)
+  byHeadBy fs past at (badTag x) = ends (refused (x .number) (x .rule) at (x .cycle))
   byHeadBy fs past at badLength = ends (refused 3 0 at 0)
   byHeadBy fs past at (whole f rest) = pick fs past at f rest (ofEntry (f .tag)) (eqb (f .tag) 33)
 
@@ -71,6 +72,7 @@ module _ (j : Judge) where
 unfoldable pub defined : Judge
 defined = record {
   come = mayCome;
+  wrong = wrongTag;
   entry = entryRefusal;
   taken = takenFor;
   end = endRefusal;
@@ -87,7 +89,7 @@ defined-step fs past at bs = ap (byHeadBy defined fs past at) (head (begun past)
 
     by : (h : Head) → byHeadBy defined fs past at h ≡ byHead fs past at h
     by cut = unfold byHeadBy byHead in refl
-    by badTag = unfold byHeadBy byHead in refl
+    by (badTag x) = unfold byHeadBy byHead in refl
     by badLength = unfold byHeadBy byHead in refl
     by (whole f rest) = unfold byHeadBy byHead in go (ofEntry (f .tag)) (eqb (f .tag) 33)
       where
@@ -97,11 +99,11 @@ defined-step fs past at bs = ap (byHeadBy defined fs past at) (head (begun past)
         go false false = refl
 
 -- what a judge says behind a step
-unfoldable behind : (List Field → Past → ℕ → List ℕ → Judged) → Past → Step → Judged
+unfoldable pub behind : (List Field → Past → ℕ → List ℕ → Judged) → Past → Step → Judged
 behind file past (goesOn fs′ past′ at′ rest) = file fs′ past′ at′ rest
 behind file past (ends v) = record { past = past; verdict = v }
 
-by-step : (j : Judge) (k : ℕ) (fs : List Field) (past : Past) (at : ℕ) (bs : List ℕ) → fileBy j (suc k) fs past at bs ≡ behind (fileBy j k) past (stepBy j fs past at bs)
+pub by-step : (j : Judge) (k : ℕ) (fs : List Field) (past : Past) (at : ℕ) (bs : List ℕ) → fileBy j (suc k) fs past at bs ≡ behind (fileBy j k) past (stepBy j fs past at bs)
 unfolding fileBy
 by-step j k fs past at bs = go (stepBy j fs past at bs)
   where
@@ -162,7 +164,7 @@ module _ (j : Judge) (P : Past → Type 0) (next : (card : Card) (past : Past) (
     has-step : (h : Head) → Has (byHeadBy j fs past at h)
     unfolding byHeadBy
     has-step cut = tt
-    has-step badTag = tt
+    has-step (badTag x) = tt
     has-step badLength = tt
     has-step (whole f rest) = go (ofEntry (f .tag)) (eqb (f .tag) 33)
       where
@@ -192,7 +194,7 @@ pub record Sized (f : Field) : Type 0 where
 data Stands (come : ℕ → Bool) : List ℕ → Head → Type 0 where
   is-field : (f : Field) (rest : List ℕ) → come (f .tag) ≡ true → Sized f → Stands come (bytesOf f ++ rest) (whole f rest)
   is-cut : {bs : List ℕ} → Stands come bs cut
-  is-bad-tag : {bs : List ℕ} → Stands come bs badTag
+  is-bad-tag : {bs : List ℕ} (x : Refusal) → Stands come bs (badTag x)
   is-bad-length : {bs : List ℕ} → Stands come bs badLength
 
 module _ (come : ℕ → Bool) where
@@ -217,9 +219,9 @@ unfolding headBy
 stands j b fs [] = is-cut
 stands j b fs (t ∷ bs) = go (j .come b fs t) refl
   where
-    go : (x : Bool) → j .come b fs t ≡ x → Stands (j .come b fs) (t ∷ bs) (cond x (sized t bs) badTag)
+    go : (x : Bool) → j .come b fs t ≡ x → Stands (j .come b fs) (t ∷ bs) (cond x (sized t bs) (badTag (j .wrong b fs t)))
     go true m = sized-stands (j .come b fs) t bs m
-    go false m = is-bad-tag
+    go false m = is-bad-tag (j .wrong b fs t)
 
 -- ---- up to a place all is of right form: the fields of the card and, behind a whole one, entries; the offset is the number of their bytes
 -- there is a field
@@ -338,9 +340,17 @@ pub record Newer (Is : (entries : Bool) → List Field → ℕ → Type 0) (byte
   pub split : bytes ≡ cardBytes fs ++ (entriesBytes es ++ (tag ∷ rest))
 
 -- and what was said of the file is a wrong tag there
-pub record Met (Is : (entries : Bool) → List Field → ℕ → Type 0) (bytes : List ℕ) (j : Judged) : Type 0 where
+pub record MetBy (wrong : (entries : Bool) → List Field → ℕ → Refusal) (Is : (entries : Bool) → List Field → ℕ → Type 0) (bytes : List ℕ) (j : Judged) : Type 0 where
   pub there : Newer Is bytes
-  pub verdict : j .verdict ≡ refused 2 0 (length (cardBytes (there .fs)) + length (entriesBytes (there .es))) 0
+  pub verdict : let x = wrong (anyOf (there .es)) (there .fs) (there .tag) in
+      j .verdict ≡ refused (x .number) (x .rule) (length (cardBytes (there .fs)) + length (entriesBytes (there .es))) (x .cycle)
+
+-- before request Three every wrong tag was 2
+abbrev pub two : (entries : Bool) → List Field → ℕ → Refusal
+two entries fs t = record { number = 2; rule = 0; offset = 0; cycle = 0 }
+
+abbrev pub Met : (Is : (entries : Bool) → List Field → ℕ → Type 0) (bytes : List ℕ) (j : Judged) → Type 0
+Met = MetBy two
 
 -- both judges' tests of a tag: they agree, or the older one's fails, where the card could end, and P
 abbrev pub TagTests : (newer older whole : Bool) → Type 0 → Type 0
@@ -366,6 +376,7 @@ pub record Enters (j : Judge) (fs : List Field) (past : Past) (f : Field) : Type
 pub record Alike (a b : Judge) (Is : (entries : Bool) → List Field → ℕ → Type 0) (Also : List Field → Past → Type 0) (fs : List Field) (past : Past) : Type 0 where
   pub tag : (t : ℕ) → TagTests (a .come (begun past) fs t) (b .come (begun past) fs t) (cardWhole fs) (Is (begun past) fs t)
   pub known : (t : ℕ) → b .come (begun past) fs t ≡ true → mayCome (begun past) fs t ≡ true
+  pub wrong : (t : ℕ) → a .wrong (begun past) fs t ≡ b .wrong (begun past) fs t
   pub card : (f : Field) → begun past ≡ false → b .come (begun past) fs (f .tag) ≡ true → ofTrace (f .tag) ≡ false → Also (f ∷ fs) past
   pub entry : (f : Field) → Enters b fs past f → a .entry (cardOf fs) past (entryOf f) ≡ b .entry (cardOf fs) past (entryOf f)
   pub taken : (f : Field) → Enters b fs past f → a .taken (cardOf fs) past (entryOf f) ≡ b .taken (cardOf fs) past (entryOf f)
@@ -421,7 +432,7 @@ module _ (a b : Judge) (Is : (entries : Bool) → List Field → ℕ → Type 0)
       same-head : {cs : List ℕ} {h : Head} → Stands (b .come (begun past) fs) cs h → Place bytes fs past at cs → Same (byHeadBy a fs past at h) (byHeadBy b fs past at h)
       unfolding byHeadBy
       same-head is-cut p = off
-      same-head is-bad-tag p = off
+      same-head (is-bad-tag x) p = off
       same-head is-bad-length p = off
       same-head (is-field f rest m s) p = go (ofEntry (f .tag)) (eqb (f .tag) 33) refl refl
         where
@@ -440,7 +451,7 @@ module _ (a b : Judge) (Is : (entries : Bool) → List Field → ℕ → Type 0)
           go false false u v = carded f rest p form k m (unfold ofTrace in rw (u, v))
 
     abbrev Parted : Judged → Type 0
-    Parted j = Met Is bytes j ⊎ Gone (j .past)
+    Parted j = MetBy (b .wrong) Is bytes j ⊎ Gone (j .past)
 
     abbrev Agrees : ℕ → List Field → Past → ℕ → List ℕ → Type 0
     Agrees k fs past at bs = (fileBy a k fs past at bs ≡ fileBy b k fs past at bs) ⊎ Parted (fileBy b k fs past at bs)
@@ -457,17 +468,19 @@ module _ (a b : Judge) (Is : (entries : Bool) → List Field → ℕ → Type 0)
       same-tag bs p e = rw (by-step a k fs past at bs, by-step b k fs past at bs) (unfold stepBy in rw e (same-step (same-head fs past at q (stands b (begun past) fs bs) p)))
 
       met : (t : ℕ) (rest : List ℕ) → Place bytes fs past at (t ∷ rest) → (b .come (begun past) fs t ≡ false) × (cardWhole fs ≡ true) × Is (begun past) fs t →
-          Met Is bytes (fileBy b (suc k) fs past at (t ∷ rest))
+          MetBy (b .wrong) Is bytes (fileBy b (suc k) fs past at (t ∷ rest))
       unfolding stepBy headBy byHeadBy behind
       met t rest p n = rw (by-step b k fs past at (t ∷ rest), n .0) (record {
         there = record { fs = fs; es = p .es; tag = t; rest = rest; card = p .right; whole = n .1; entries = p .entries; is = rw (← p .came) (n .2); split = p .split };
-        verdict = ap (λ (n : ℕ). refused 2 0 n 0) (p .offset);
+        verdict = let x = b .wrong (begun past) fs t in
+            ap (λ (n : ℕ). refused (x .number) (x .rule) n (x .cycle)) (p .offset)
+            ∙ ap (λ (c : Bool). let x = b .wrong c fs t in refused (x .number) (x .rule) (length (cardBytes fs) + length (entriesBytes (p .es))) (x .cycle)) (p .came);
       })
 
       onward : (bs : List ℕ) → Place bytes fs past at bs → Agrees (suc k) fs past at bs
       onward [] p = same-tag [] p (unfold headBy in refl)
       onward (t ∷ rest) p = ⊎-elim
-          (λ (e : a .come (begun past) fs t ≡ b .come (begun past) fs t). same-tag (t ∷ rest) p (unfold headBy in rw e))
+          (λ (e : a .come (begun past) fs t ≡ b .come (begun past) fs t). same-tag (t ∷ rest) p (unfold headBy in rw (e, alike fs past (p .right) q .wrong t)))
           (λ (n : (b .come (begun past) fs t ≡ false) × (cardWhole fs ≡ true) × Is (begun past) fs t). inr (inl (met t rest p n)))
           (alike fs past (p .right) q .tag t)
 
@@ -476,23 +489,24 @@ module _ (a b : Judge) (Is : (entries : Bool) → List Field → ℕ → Type 0)
     walk (suc k) fs past at bs p q = onward k fs past at q (λ fs′ past′ at′ rest. walk k fs′ past′ at′ rest) bs p
 
     -- so of every file they say the same, or the older one met a tag that it does not know, or took an entry of which it knows less
-    pub agree-until : Also [] [] → (judgedBy a bytes ≡ judgedBy b bytes) ⊎ (Met Is bytes (judgedBy b bytes) ⊎ Gone (judgedBy b bytes .past))
+    pub agree-until : Also [] [] → (judgedBy a bytes ≡ judgedBy b bytes) ⊎ (MetBy (b .wrong) Is bytes (judgedBy b bytes) ⊎ Gone (judgedBy b bytes .past))
     unfolding judgedBy
     agree-until q = walk (suc (length bytes)) [] [] 0 bytes place-start q
 
 -- where there is no such entry
 module _ (a b : Judge) (Is : (entries : Bool) → List Field → ℕ → Type 0) (Also : List Field → Past → Type 0)
     (alike : (fs : List Field) (past : Past) → CardRight fs → Also fs past → Alike a b Is Also fs past) (bytes : List ℕ) where
-  pub agree : Also [] [] → (judgedBy a bytes ≡ judgedBy b bytes) ⊎ Met Is bytes (judgedBy b bytes)
+  pub agree : Also [] [] → (judgedBy a bytes ≡ judgedBy b bytes) ⊎ MetBy (b .wrong) Is bytes (judgedBy b bytes)
   agree q = ⊎-elim
       (λ (e : judgedBy a bytes ≡ judgedBy b bytes). inl e)
-      (⊎-elim (λ (m : Met Is bytes (judgedBy b bytes)). inr m) (λ (n : ⊥). absurd n))
+      (⊎-elim (λ (m : MetBy (b .wrong) Is bytes (judgedBy b bytes)). inr m) (λ (n : ⊥). absurd n))
       (agree-until a b Is Also (λ past. ⊥) (λ card past e n. n) ever bytes q)
     where
       ever : (fs : List Field) (past : Past) → CardRight fs → Also fs past → Alike a b Is (λ fs past. Also fs past ⊎ ⊥) fs past
       ever fs past r q = let k = alike fs past r q in record {
         tag = k .tag;
         known = k .known;
+        wrong = k .wrong;
         card = λ f b m o. inl (k .card f b m o);
         entry = k .entry;
         taken = k .taken;

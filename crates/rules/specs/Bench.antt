@@ -1,5 +1,5 @@
 -- The bench card and its starred cases (document 01, "Bench card and its cases"), as files, and a few more that the starred ones do not show: those of low
--- clock-enable, of nWR, of two parts and of temperature (document 02, One, Two, Nine and Eleven) among them.
+-- clock-enable, of nWR, of wrong tags, of two parts and of temperature (document 02, One, Two, Three, Nine and Eleven) among them.
 use Prim.Native.Nat.{ℕ, suc, _-_}
 use mathlib.Core.Path.{_≡_}
 use mathlib.Core.Bool.{Bool, true, false}
@@ -259,9 +259,9 @@ sleeping =
     judges (file sleeper (sevenRefreshes ++ (refab low 400 ∷ nop at 500 ∷ refpb at 700 ∷ [])) 800) (accepts 8 0 (pos 0)) ∷
     judges (file sleeper (sevenRefreshes ++ (nop low 400 ∷ nop at 500 ∷ refpb at 700 ∷ [])) 800) (accepts 8 1 (negsuc 0)) ∷
     -- the form: all four tags or none, before the first entry
-    judges (take 143 (cardFile sleeper) ++ endFile 20) (refused 2 0 143 0) ∷
-    judges (cardFile bench ++ entriesFile (nop at 0 ∷ []) ++ timingFields 19 (sleepTimings sleeper) ++ endFile 20) (refused 2 0 145 0) ∷
-    judges (cardFile bench ++ timingFields 20 (sleepTimings sleeper) ++ endFile 20) (refused 2 0 135 0) ∷
+    judges (take 143 (cardFile sleeper) ++ endFile 20) (refused 19 20 143 0) ∷
+    judges (cardFile bench ++ entriesFile (nop at 0 ∷ []) ++ timingFields 19 (sleepTimings sleeper) ++ endFile 20) (refused 18 19 145 0) ∷
+    judges (cardFile bench ++ timingFields 20 (sleepTimings sleeper) ++ endFile 20) (refused 19 19 135 0) ∷
     judges (cardFile bench ++ timingFields 19 (timing 1_000_001 0 ∷ []) ++ endFile 20) (refused 4 0 135 0) ∷
     -- a fall prints as NOP
     prints (file sleeper (nop low 0 ∷ []) 1) (
@@ -339,9 +339,9 @@ paired =
     -- the form: length, then 4 beside tags 19 to 22; once, and behind tag 18; a gap may be 0
     judges (cardFile sleeper ++ fieldBytes 25 (0 ∷ 0 ∷ []) ++ endFile 20) (refused 3 0 167 0) ∷
     judges (cardFile sleeper ++ fieldBytes 25 (0 ∷ []) ++ endFile 20) (refused 4 0 167 0) ∷
-    judges (cardFile (pair 2) ++ fieldBytes 25 (2 ∷ []) ++ endFile 20) (refused 2 0 139 0) ∷
-    judges (cardFile (pair 2) ++ timingFields 19 (sleepTimings sleeper) ++ endFile 20) (refused 2 0 139 0) ∷
-    judges (cardFile bench ++ entriesFile (nop at 0 ∷ []) ++ fieldBytes 25 (2 ∷ []) ++ endFile 20) (refused 2 0 145 0) ∷
+    judges (cardFile (pair 2) ++ fieldBytes 25 (2 ∷ []) ++ endFile 20) (refused 18 33 139 0) ∷
+    judges (cardFile (pair 2) ++ timingFields 19 (sleepTimings sleeper) ++ endFile 20) (refused 18 19 139 0) ∷
+    judges (cardFile bench ++ entriesFile (nop at 0 ∷ []) ++ fieldBytes 25 (2 ∷ []) ++ endFile 20) (refused 18 33 145 0) ∷
     -- pins and lines
     writesTo 0 (act 5 0x1234) 0x60_d2ca ∷
     writesTo 1 (act 5 0x1234) 0x30_d2ca ∷
@@ -405,11 +405,11 @@ programmed =
     judges (cardFile bench ++ fieldBytes 23 (3 ∷ 3 ∷ []) ++ endFile 20) (refused 3 0 135 0) ∷
     judges (cardFile bench ++ fieldBytes 23 (0xc2 ∷ []) ++ endFile 20) (refused 4 0 135 0) ∷
     judges (cardFile bench ++ fieldBytes 23 (0xfb ∷ []) ++ endFile 20) (accepts 0 0 (pos 0)) ∷
-    judges (cardFile (starts 0x1a 3) ++ fieldBytes 23 (3 ∷ []) ++ endFile 20) (refused 2 0 139 0) ∷
-    judges (cardFile (pair 2) ++ fieldBytes 23 (3 ∷ []) ++ endFile 20) (refused 2 0 139 0) ∷
-    judges (cardFile heater ++ fieldBytes 23 (3 ∷ []) ++ endFile 20) (refused 2 0 142 0) ∷
-    judges (cardFile bench ++ entriesFile (nop at 0 ∷ []) ++ fieldBytes 23 (3 ∷ []) ++ endFile 20) (refused 2 0 145 0) ∷
-    judges (take 143 (cardFile sleeper) ++ fieldBytes 23 (3 ∷ []) ++ endFile 20) (refused 2 0 143 0) ∷
+    judges (cardFile (starts 0x1a 3) ++ fieldBytes 23 (3 ∷ []) ++ endFile 20) (refused 18 33 139 0) ∷
+    judges (cardFile (pair 2) ++ fieldBytes 23 (3 ∷ []) ++ endFile 20) (refused 18 33 139 0) ∷
+    judges (cardFile heater ++ fieldBytes 23 (3 ∷ []) ++ endFile 20) (refused 18 33 142 0) ∷
+    judges (cardFile bench ++ entriesFile (nop at 0 ∷ []) ++ fieldBytes 23 (3 ∷ []) ++ endFile 20) (refused 18 33 145 0) ∷
+    judges (take 143 (cardFile sleeper) ++ fieldBytes 23 (3 ∷ []) ++ endFile 20) (refused 19 20 143 0) ∷
     judges (cardFile sleeper ++ fieldBytes 23 (3 ∷ []) ++ endFile 20) (accepts 0 0 (pos 0)) ∷
     judges (cardFile (starts 0x1a 3) ++ fieldBytes 25 (2 ∷ []) ++ endFile 20) (accepted 0 0 (pos 0 ∷ pos 0 ∷ [])) ∷ []
 
@@ -504,10 +504,10 @@ warming =
     -- the form: tag 26 at most once, in range, before the first entry and behind 19 to 22; tag 34 behind a whole card
     judges (cardFile bench ++ fieldBytes 26 (bigEndian 4 1_000_001) ++ endFile 20) (refused 4 0 135 0) ∷
     judges (cardFile bench ++ fieldBytes 26 (bigEndian 4 1_000_000) ++ endFile 20) (accepts 0 0 (pos 0)) ∷
-    judges (cardFile heater ++ fieldBytes 26 (bigEndian 4 0) ++ endFile 20) (refused 2 0 142 0) ∷
-    judges (cardFile heater ++ timingFields 19 (sleepTimings sleeper) ++ endFile 20) (refused 2 0 142 0) ∷
-    judges (cardFile bench ++ entriesFile (0b011 sets 0 ∷ []) ++ fieldBytes 26 (bigEndian 4 0) ++ endFile 20) (refused 2 0 143 0) ∷
-    judges (take 127 (cardFile bench) ++ entriesFile (0b011 sets 0 ∷ []) ++ endFile 20) (refused 2 0 127 0) ∷
+    judges (cardFile heater ++ fieldBytes 26 (bigEndian 4 0) ++ endFile 20) (refused 18 33 142 0) ∷
+    judges (cardFile heater ++ timingFields 19 (sleepTimings sleeper) ++ endFile 20) (refused 18 19 142 0) ∷
+    judges (cardFile bench ++ entriesFile (0b011 sets 0 ∷ []) ++ fieldBytes 26 (bigEndian 4 0) ++ endFile 20) (refused 18 33 143 0) ∷
+    judges (take 127 (cardFile bench) ++ entriesFile (0b011 sets 0 ∷ []) ++ endFile 20) (refused 19 18 127 0) ∷
     judges (cardFile bench ++ fieldBytes 34 (bigEndian 4 0) ++ endFile 20) (refused 3 0 135 0) ∷
     -- two parts: the field is of both, and names none; each ledger's gap counts from it, and both go by one schedule; the first entry stands at offset 139
     judges (file (pair 2) (0b100 sets 0 ∷ []) 14_039) (accepted 0 0 (pos 8 ∷ pos 8 ∷ [])) ∷
@@ -520,9 +520,50 @@ warming =
     judges (file hotPair (act 0 0 at₀ 0 ∷ act 0 0 at₁ 1 ∷ 0b110 sets 10 ∷ rd 0 0 false at₁ 16 ∷ []) 20) (refused 10 7 174 17) ∷
     judges (file hotPair (act 0 0 at₀ 0 ∷ act 0 0 at₁ 1 ∷ 0b110 sets 10 ∷ rd 0 0 false at₀ 15 ∷ []) 20) (refused 10 7 174 16) ∷
     judges (file hotPair (act 0 0 at₀ 0 ∷ act 0 0 at₁ 1 ∷ 0b110 sets 10 ∷ rd 0 0 false at₀ 16 ∷ []) 20) (accepted 3 0 (pos 0 ∷ pos 0 ∷ [])) ∷
-    judges (cardFile hotPair ++ fieldBytes 25 (2 ∷ []) ++ endFile 20) (refused 2 0 146 0) ∷
+    judges (cardFile hotPair ++ fieldBytes 25 (2 ∷ []) ++ endFile 20) (refused 18 33 146 0) ∷
     -- it is neither counted nor printed
     prints (file bench (nop at 0 ∷ 0b011 sets 5 ∷ []) 6) (
     48 ∷ 32 ∷ 78 ∷ 79 ∷ 80 ∷ 32 ∷ 45 ∷ 10 ∷
     97 ∷ 99 ∷ 99 ∷ 101 ∷ 112 ∷ 116 ∷ 101 ∷ 100 ∷ 32 ∷ 48 ∷ 32 ∷ 48 ∷ 32 ∷ 48 ∷ 10 ∷ []
     ) ∷ []
+
+-- ---- wrong tags: tags 1 to 7 of bench take 47 bytes, 1 to 18 take 135, 19 and 20 of sleeper 16 more
+unfoldable pub ordering : List Case
+ordering =
+    -- at the start; a wrong tag may be the last byte
+    judges (0 ∷ []) (refused 17 1 0 0) ∷
+    judges (2 ∷ []) (refused 19 1 0 0) ∷
+    judges (endFile 20) (refused 19 1 0 0) ∷
+    -- in 1 to 18: unknown, before its turn, behind its turn, once more; an entry and a temperature; and tags 19 to 22, which then are required too
+    judges (take 47 (cardFile bench) ++ (24 ∷ [])) (refused 17 8 47 0) ∷
+    judges (take 47 (cardFile bench) ++ (9 ∷ [])) (refused 19 8 47 0) ∷
+    judges (take 47 (cardFile bench) ++ (3 ∷ [])) (refused 18 8 47 0) ∷
+    judges (take 47 (cardFile bench) ++ (7 ∷ [])) (refused 18 8 47 0) ∷
+    judges (take 47 (cardFile bench) ++ (32 ∷ [])) (refused 19 8 47 0) ∷
+    judges (take 47 (cardFile bench) ++ (34 ∷ [])) (refused 19 8 47 0) ∷
+    judges (take 47 (cardFile bench) ++ (20 ∷ [])) (refused 19 8 47 0) ∷
+    -- before the length and the value
+    judges (take 7 (cardFile bench) ++ (3 ∷ 0 ∷ 9 ∷ [])) (refused 19 2 7 0) ∷
+    -- behind 18
+    judges (cardFile bench ++ (24 ∷ [])) (refused 17 33 135 0) ∷
+    judges (cardFile bench ++ (18 ∷ [])) (refused 18 33 135 0) ∷
+    judges (cardFile bench ++ (20 ∷ [])) (refused 19 19 135 0) ∷
+    judges (cardFile bench ++ (22 ∷ [])) (refused 19 19 135 0) ∷
+    -- inside the four
+    judges (take 151 (cardFile sleeper) ++ (35 ∷ [])) (refused 17 21 151 0) ∷
+    judges (take 151 (cardFile sleeper) ++ (20 ∷ [])) (refused 18 21 151 0) ∷
+    judges (take 151 (cardFile sleeper) ++ (3 ∷ [])) (refused 18 21 151 0) ∷
+    judges (take 151 (cardFile sleeper) ++ (22 ∷ [])) (refused 19 21 151 0) ∷
+    judges (take 151 (cardFile sleeper) ++ (23 ∷ [])) (refused 19 21 151 0) ∷
+    judges (take 151 (cardFile sleeper) ++ (33 ∷ [])) (refused 19 21 151 0) ∷
+    -- behind them, and behind a higher tag, with them and without
+    judges (cardFile sleeper ++ (21 ∷ [])) (refused 18 33 167 0) ∷
+    judges (cardFile (starts 0x1a 3) ++ (19 ∷ [])) (refused 18 19 139 0) ∷
+    judges (cardFile (starts 0x1a 3) ++ (22 ∷ [])) (refused 18 19 139 0) ∷
+    judges (cardFile sleeper ++ fieldBytes 23 (3 ∷ []) ++ (22 ∷ [])) (refused 18 33 171 0) ∷
+    -- behind an entry
+    judges (cardFile bench ++ entriesFile (nop at 0 ∷ []) ++ (26 ∷ [])) (refused 18 33 145 0) ∷
+    judges (cardFile bench ++ entriesFile (nop at 0 ∷ []) ++ (21 ∷ [])) (refused 18 19 145 0) ∷
+    judges (cardFile bench ++ entriesFile (nop at 0 ∷ []) ++ (31 ∷ [])) (refused 17 33 145 0) ∷
+    -- behind the end no tag is looked at
+    judges (cardFile bench ++ endFile 20 ++ (0 ∷ [])) (refused 12 0 142 0) ∷ []

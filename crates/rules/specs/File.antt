@@ -48,7 +48,7 @@ endStep fs past at f rest =
 
 unfoldable pub byHead : List Field → Past → ℕ → Head → Step
 byHead fs past at cut = ends (refused 1 0 at 0)
-byHead fs past at badTag = ends (refused 2 0 at 0)
+byHead fs past at (badTag x) = ends (refused (x .number) (x .rule) at (x .cycle))
 byHead fs past at badLength = ends (refused 3 0 at 0)
 byHead fs past at (whole f rest) =
     cond (ofEntry (f .tag)) (entryStep fs past at f rest)

@@ -1,6 +1,6 @@
 -- Tagged fields over the list of bytes: head, card, entry, end (document 01, "The file: card, entries, end"). What was read of the card is the list of its
 -- fields, the newest first; the tests of a tag, of a length and of a whole card are predicates of that.
-use Prim.Native.Nat.{ℕ, suc, _+_, _*_}
+use Prim.Native.Nat.{ℕ, suc, _+_, _*_, min}
 use mathlib.Core.Bool.{Bool, false, cond, not, _&&_, _||_}
 use mathlib.Core.List.{List, [], _∷_}
 use mathlib.Core.Option.{Option, none, some}
@@ -10,6 +10,7 @@ use Rattle.rules.specs.Card.{Timing, Card}
 use Rattle.rules.specs.Registers.{mr2Good}
 use Rattle.rules.specs.Ranges.{periodGood, groupsGood, trefiGood, timingGood, startGood, raiseGood}
 use Rattle.rules.specs.Entries.{Body, pins, mr4, Entry}
+use Rattle.rules.specs.Checks.{Refusal, refusal}
 
 -- a field as it stands in the file: a tag byte, the two bytes of its length, the value
 pub record Field : Type 0 where
@@ -32,7 +33,7 @@ numberFrom a (b ∷ bs) = numberFrom (256 * a + b) bs
 unfoldable pub number : List ℕ → ℕ
 number = numberFrom 0
 
--- ---- tags and lengths
+-- ---- tags
 -- The card's tags come in groups, each whole, its tags once and in their order. The first group always comes; a later one may, behind those before it
 pub record Group : Type 0 where
   pub first : ℕ
@@ -42,13 +43,22 @@ infix 90 _upTo_
 unfoldable pub _upTo_ : ℕ → ℕ → Group
 a upTo b = record { first = a; last = b }
 
+-- the tags of a part that sleeps
+abbrev pub sleepTags : Group
+sleepTags = 19 upTo 22
+
 unfoldable pub groups : List Group
-groups = 1 upTo 18 ∷ 19 upTo 22 ∷ 23 upTo 23 ∷ 25 upTo 25 ∷ 26 upTo 26 ∷ []
+groups = 1 upTo 18 ∷ sleepTags ∷ 23 upTo 23 ∷ 25 upTo 25 ∷ 26 upTo 26 ∷ []
 
 -- the tag of the newest field, 0 before the first
 unfoldable pub lastTag : List Field → ℕ
 lastTag [] = 0
 lastTag (f ∷ fs) = f .tag
+
+-- the card has this tag
+unfoldable pub has : ℕ → List Field → Bool
+has t [] = false
+has t (f ∷ fs) = eqb (f .tag) t || has t fs
 
 -- a group ends with this tag
 unfoldable pub endsGroup : List Group → ℕ → Bool
@@ -80,6 +90,43 @@ mayFollow entries last tag =
 unfoldable pub mayCome : (entries : Bool) → List Field → ℕ → Bool
 mayCome entries fs tag = mayFollow entries (lastTag fs) tag
 
+-- ---- a tag that may not come. FileReading says it over the fields that were read (`Wrong`, `Expected`)
+unfoldable pub inGroup : Group → ℕ → Bool
+inGroup g t = leb (g .first) t && leb t (g .last)
+
+unfoldable pub inGroups : List Group → ℕ → Bool
+inGroups [] t = false
+inGroups (g ∷ gs) t = inGroup g t || inGroups gs t
+
+-- a tag of the card
+unfoldable pub ofCard : ℕ → Bool
+ofCard = inGroups groups
+
+-- or of the trace
+unfoldable pub known : ℕ → Bool
+known t = ofCard t || ofTrace t
+
+-- seen, or behind a higher tag: the card's rise, and an entry's is above them
+unfoldable pub passedBy : (entries : Bool) → (last tag : ℕ) → Bool
+passedBy entries last t = entries || leb t last
+
+-- unknown; a tag of the card that was passed; else too early
+unfoldable pub wrongNumber : (entries : Bool) → (last tag : ℕ) → ℕ
+wrongNumber entries last t = cond (known t) (cond (ofCard t && passedBy entries last t) 18 19) 17
+
+-- The lowest required tag that was not read, else the end's, which is above all of the card's. Inside a group that is the next one; where the card could end it
+-- is 19, if one of 19 to 22 comes and none was read
+unfoldable pub expectedAfter : (last : ℕ) → (four : Bool) → (tag : ℕ) → ℕ
+expectedAfter last four t = cond (endsGroup groups last) (cond (inGroup sleepTags t && not four) (sleepTags .first) 33) (min (suc last) 33)
+
+-- what was read is told by whether an entry has come, by the newest tag of the card, and by whether 19 to 22 were read
+unfoldable pub wrongAfter : (entries : Bool) → (last : ℕ) → (four : Bool) → (tag : ℕ) → Refusal
+wrongAfter entries last four t = refusal (wrongNumber entries last t) (expectedAfter last four t) 0
+
+unfoldable pub wrongTag : (entries : Bool) → List Field → ℕ → Refusal
+wrongTag entries fs t = wrongAfter entries (lastTag fs) (has (sleepTags .first) fs) t
+
+-- ---- lengths
 -- a tag and a length that it may have
 pub record Listed : Type 0 where
   pub tag : ℕ
@@ -107,7 +154,7 @@ lengthGood = isListed lengths
 pub data Head : Type 0 where
   whole : Field → (rest : List ℕ) → Head
   cut : Head
-  badTag : Head
+  badTag : Refusal → Head
   badLength : Head
 
 unfoldable pub valued : (tag high low : ℕ) → List ℕ → Head
@@ -122,7 +169,7 @@ sized t (h ∷ l ∷ bs) = cond (lengthGood t (256 * h + l)) (valued t h l bs) b
 
 unfoldable pub headOf : (entries : Bool) → List Field → List ℕ → Head
 headOf b fs [] = cut
-headOf b fs (t ∷ bs) = cond (mayCome b fs t) (sized t bs) badTag
+headOf b fs (t ∷ bs) = cond (mayCome b fs t) (sized t bs) (badTag (wrongTag b fs t))
 
 -- ---- values
 unfoldable pub timingOf : List ℕ → Timing
@@ -132,11 +179,6 @@ timingOf v = record { duration = number (take 4 v); floor = number (drop 4 v) }
 unfoldable pub valueOf : ℕ → List Field → List ℕ
 valueOf t [] = []
 valueOf t (f ∷ fs) = cond (eqb (f .tag) t) (f .value) (valueOf t fs)
-
--- the card has this tag
-unfoldable pub has : ℕ → List Field → Bool
-has t [] = false
-has t (f ∷ fs) = eqb (f .tag) t || has t fs
 
 unfoldable pub numberAt : ℕ → List Field → ℕ
 numberAt t fs = number (valueOf t fs)

@@ -1,11 +1,11 @@
-use Rattle.rules.specs.Form.{_upTo_, groups, beginsGroup}
-use Rattle.card.proofs.Groups.{any-of}
+use native.Mathlib.Omega.{arith}
+use borrow.Author.Needs.{needs}
+use Rattle.card.proofs.Groups.{begins-by}
 use Rattle.card.proofs.tags.begins_group.Statement.{statement}
 use Rattle.card.proofs.tags.begins_group.Tie as tie
 
 returns : tie.Need-returns
-unfolding beginsGroup groups _upTo_
-returns c = any-of (c .args .tag) _ _ _ _ _
+returns c = let a = c .before in rw (a .group-of .ensures) (begins-by (a .before .args .tag) (omega arith))
 
 pub begins-group-spec : {M : Type 1} → statement M
-begins-group-spec = tie.close (tie.spec returns)
+begins-group-spec = tie.close (tie.spec (λ c κs. search needs) returns)

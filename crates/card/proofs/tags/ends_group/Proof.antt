@@ -1,11 +1,11 @@
-use Rattle.rules.specs.Form.{_upTo_, groups, endsGroup}
-use Rattle.card.proofs.Groups.{any-of}
+use native.Mathlib.Omega.{arith}
+use borrow.Author.Needs.{needs}
+use Rattle.card.proofs.Groups.{ends-by}
 use Rattle.card.proofs.tags.ends_group.Statement.{statement}
 use Rattle.card.proofs.tags.ends_group.Tie as tie
 
 returns : tie.Need-returns
-unfolding endsGroup groups _upTo_
-returns c = any-of (c .args .tag) _ _ _ _ _
+returns c = let a = c .before in rw (a .group-of .ensures) (ends-by (a .before .args .tag) (omega arith))
 
 pub ends-group-spec : {M : Type 1} → statement M
-ends-group-spec = tie.close (tie.spec returns)
+ends-group-spec = tie.close (tie.spec (λ c κs. search needs) returns)

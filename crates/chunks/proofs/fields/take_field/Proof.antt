@@ -2,7 +2,7 @@
 use mathlib.Core.Path.{sym, _∙_}
 use borrow.Author.Tests.{eq-eqb}
 use lib.Seq.{length-take-le}
-use Rattle.chunks.specs.Took.{refusedBy, headAt, tookOf}
+use Rattle.chunks.specs.Took.{refusedBy, refusedTag, headAt, tookOf}
 use Rattle.chunks.proofs.Fronts.{front}
 use Rattle.chunks.proofs.Entries.{not-taken}
 use Rattle.chunks.proofs.Taking.{took-as, whole-took, whole-asks}
@@ -34,12 +34,12 @@ unfolding headAt
 returns-3 c = let h = c .before .before in sym (took-as _ _ (h .before .if1 .left) _ _ (h .head-of .ensures) (c .enum-told .given .1))
 
 returns-4 : tie.Need-returns-4
-unfolding refusedBy headAt
-returns-4 c = let h = c .before .before .before in c .refused .ensures ∙ sym (took-as _ _ (h .before .if1 .left) _ _ (h .head-of .ensures) (c .before .enum-told2 .given .1))
+unfolding refusedTag headAt
+returns-4 c = let h = c .before .before .before .before in c .refused .ensures ∙ sym (took-as _ _ (h .before .if1 .left) _ _ (h .head-of .ensures) (c .before .before .wrong .given .1))
 
 returns-5 : tie.Need-returns-5
 unfolding refusedBy headAt
-returns-5 c = let h = c .before .before .before in c .refused2 .ensures ∙ sym (took-as _ _ (h .before .if1 .left) _ _ (h .head-of .ensures) (c .before .enum-told3 .given .1))
+returns-5 c = let h = c .before .before .before in c .refused2 .ensures ∙ sym (took-as _ _ (h .before .if1 .left) _ _ (h .head-of .ensures) (c .before .enum-told2 .given .1))
 
 pub take-field-spec : {M : Type 1} → statement M
 take-field-spec =

@@ -1,6 +1,6 @@
 use mathlib.Core.Path.{sym, _∙_}
 use borrow.Author.Tests.{lt-ltb, le-ltb, eq-eqb, ne-eqb, not-true, not-false}
-use Rattle.chunks.proofs.Fronts.{come-as, head-is}
+use Rattle.chunks.proofs.Fronts.{come-as, wrong-as, wrong-told, head-is}
 use borrow.Author.Needs.{needs}
 use Rattle.chunks.proofs.heads.head_of.Statement.{statement}
 use Rattle.chunks.proofs.heads.head_of.Tie as tie
@@ -10,13 +10,19 @@ returns c = sym (head-is _ _ _ ∙ rw (eq-eqb _ _ (c .if1 .taken)))
 
 returns-2 : tie.Need-returns-2
 returns-2 c =
-    let e = c .before in
-    sym (head-is _ _ _ ∙ rw (ne-eqb _ _ (e .before .before .if1 .left), come-as _ _ _ ∙ sym (e .may-come .ensures) ∙ not-true _ (c .if2 .taken)))
+    let e = c .before .before in
+    sym (head-is _ _ _ ∙ rw (
+      ne-eqb _ _ (e .before .before .if1 .left),
+      come-as _ _ (e .before .before .before .before .args .sleeps) _ ∙ sym (e .may-come .ensures) ∙ not-true _ (c .before .if2 .taken),
+      wrong-as _ _ (e .before .before .before .before .args .sleeps) _,
+      ← c .wrong-tag .ensures,
+      wrong-told (c .wrong-tag .result),
+    ))
 
 returns-3 : tie.Need-returns-3
 returns-3 c =
     let e = c .before .before in
-    sym (head-is _ _ _ ∙ rw (ne-eqb _ _ (e .before .before .if1 .left), come-as _ _ _ ∙ sym (e .may-come .ensures) ∙ not-false _ (c .before .if2 .left), lt-ltb _ _ (c .if3 .taken)))
+    sym (head-is _ _ _ ∙ rw (ne-eqb _ _ (e .before .before .if1 .left), come-as _ _ (e .before .before .before .before .args .sleeps) _ ∙ sym (e .may-come .ensures) ∙ not-false _ (c .before .if2 .left), lt-ltb _ _ (c .if3 .taken)))
 
 returns-4 : tie.Need-returns-4
 returns-4 c =
@@ -24,7 +30,7 @@ returns-4 c =
     let e = t .before .before .before in
     sym (head-is _ _ _ ∙ rw (
       ne-eqb _ _ (e .before .before .if1 .left),
-      come-as _ _ _ ∙ sym (e .may-come .ensures) ∙ not-false _ (t .before .before .if2 .left),
+      come-as _ _ (e .before .before .before .before .args .sleeps) _ ∙ sym (e .may-come .ensures) ∙ not-false _ (t .before .before .if2 .left),
       le-ltb _ _ (t .before .if3 .left),
       ← t .size-in .ensures .0,
       sym (c .before .length-good .ensures) ∙ not-true _ (c .if4 .taken),
@@ -36,7 +42,7 @@ returns-5 c =
     let e = t .before .before .before in
     sym (head-is _ _ _ ∙ rw (
       ne-eqb _ _ (e .before .before .if1 .left),
-      come-as _ _ _ ∙ sym (e .may-come .ensures) ∙ not-false _ (t .before .before .if2 .left),
+      come-as _ _ (e .before .before .before .before .args .sleeps) _ ∙ sym (e .may-come .ensures) ∙ not-false _ (t .before .before .if2 .left),
       le-ltb _ _ (t .before .if3 .left),
       ← t .size-in .ensures .0,
       sym (c .before .before .length-good .ensures) ∙ not-false _ (c .before .if4 .left),
@@ -49,7 +55,7 @@ returns-6 c =
     let e = t .before .before .before in
     sym (head-is _ _ _ ∙ rw (
       ne-eqb _ _ (e .before .before .if1 .left),
-      come-as _ _ _ ∙ sym (e .may-come .ensures) ∙ not-false _ (t .before .before .if2 .left),
+      come-as _ _ (e .before .before .before .before .args .sleeps) _ ∙ sym (e .may-come .ensures) ∙ not-false _ (t .before .before .if2 .left),
       le-ltb _ _ (t .before .if3 .left),
       ← t .size-in .ensures .0,
       sym (c .before .before .length-good .ensures) ∙ not-false _ (c .before .if4 .left),
@@ -62,6 +68,7 @@ head-of-spec =
     (tie.spec
     returns
     (λ c. search needs)
+    (λ c κs. search needs)
     (λ c κs. search needs)
     returns-2
     returns-3
