@@ -272,3 +272,7 @@ module _ (bytes : List ℕ) (j : Judged) (e : judgedBy curt bytes ≡ j) where
   -- where that was no wrong tag, all is as it was
   pub same-by : ((at : ℕ) → j .verdict ≡ refused 2 0 at 0 → ⊥) → judged bytes ≡ j
   same-by right = let v : judged bytes .verdict ≡ j .verdict = unfold judgeFile in unmoved verdict-by right in λ i. record { past = past-is i; verdict = v i }
+
+pub lines-retold : (bytes : List ℕ) → LinesRetold (linesCurt bytes) (linesOf bytes)
+unfolding linesCurt
+lines-retold bytes = lines-by bytes (judgedBy curt bytes) refl _ refl

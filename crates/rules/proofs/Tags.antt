@@ -16,6 +16,10 @@ all-both : (p : Group → Bool) (g : Group) (gs : List Group) → all p (g ∷ g
 unfolding all
 all-both p g gs h = both-true (p g) (all p gs) h
 
+pub neither : (x y : Bool) → (x || y) ≡ false → (x ≡ false) × (y ≡ false)
+neither false y e = (refl, e)
+neither true y e = let z : _≡_ {A = ℕ} 0 1 = cc in absurd (omega arith)
+
 -- a group has a tag, and neither 0 nor one of an entry or the end
 unfoldable proper : Group → Bool
 proper g = (leb 1 (g .first) && leb (g .first) (g .last)) && ltb (g .last) 32
@@ -71,11 +75,7 @@ next-in (g ∷ gs) t (inl w) e = ⊎-elim
     (λ (q : (g .last ≡ t) × (eqb (g .last) t ≡ true)). let z : true ≡ false = rw (q .1) at e in let y : _≡_ {A = ℕ} 0 1 = cc in absurd (omega arith))
     (λ (q : (g .last ≡ t → ⊥) × (eqb (g .last) t ≡ false)). inl (omega (arith, w .0), omega (arith, w .1, q .0)))
     (eq-cases (g .last) t)
-next-in (g ∷ gs) t (inr w) e = inr (next-in gs t w (other (eqb (g .last) t) e))
-  where
-    other : (x : Bool) → (x || endsGroup gs t) ≡ false → endsGroup gs t ≡ false
-    other false h = h
-    other true h = let z : _≡_ {A = ℕ} 0 1 = cc in absurd (omega arith)
+next-in (g ∷ gs) t (inr w) e = inr (next-in gs t w (neither (eqb (g .last) t) (endsGroup gs t) e .1))
 
 between-in : (gs : List Group) → all proper gs ≡ true → (t : ℕ) → Within gs t → (1 ≤ t) × (t < 32)
 unfolding Within
@@ -128,10 +128,6 @@ joint-is g h = ⊎-elim
         (λ (q : (g .last ≤ 18) × (leb (g .last) 18 ≡ true)). inl (q .0))
         (λ (q : (18 < g .last) × (leb (g .last) 18 ≡ false)). let b = both-true _ _ (rw (q .1) at e) in inr (leb-true 19 (g .first) (b .0), leb-true (g .last) 22 (b .1)))
         (le-cases (g .last) 18)
-
-pub neither : (x y : Bool) → (x || y) ≡ false → (x ≡ false) × (y ≡ false)
-neither false y e = (refl, e)
-neither true y e = let z : _≡_ {A = ℕ} 0 1 = cc in absurd (omega arith)
 
 -- a tag of a group whose edge it is not has another beside it
 record Off (edge : Group → ℕ) (t : ℕ) : Type 0 where

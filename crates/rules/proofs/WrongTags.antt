@@ -219,17 +219,17 @@ module _ (fs : List Field) (r : CardRight fs) where
         go true w = for-19 w (behind-first t (within-of t o) (not-first w)) (ends-apart last (ends-as w))
         go false w = waits-next w (omega (arith, higher, eqb-false t (suc last) (unfold mayCome mayFollow in rw (ends-as w) at m)))
 
+    too-early : known t ≡ true → (ofCard t ≡ true → Passed b fs t → ⊥) → Waits t → Wrong b fs t 19
+    too-early k n w = early k n (w .tag) (w .lower) (w .required) (w .missing)
+
     pub wrong-is : Wrong b fs t (wrongNumber b last t)
     unfolding wrongNumber
     wrong-is = go (ofCard t) (ofTrace t) (passedBy b last t) refl refl refl
       where
         go : (x y z : Bool) → ofCard t ≡ x → ofTrace t ≡ y → passedBy b last t ≡ z → Wrong b fs t (cond (known t) (cond (ofCard t && passedBy b last t) 18 19) 17)
         go true y true o q e = unfold known in rw (o, e) (passed o (passed-is b t o e))
-        go true y false o q e = unfold known in rw (o, e) (too-early (rw o) (λ o. not-passed b t e o) (waits-card o e))
-          where
-            too-early : known t ≡ true → (ofCard t ≡ true → Passed b fs t → ⊥) → Waits t → Wrong b fs t 19
-            too-early k n w = early k n (w .tag) (w .lower) (w .required) (w .missing)
-        go false true z o q e = unfold known in rw (o, q) (let w = waits-trace q in early (rw (o, q)) (λ p. apart p o) (w .tag) (w .lower) (w .required) (w .missing))
+        go true y false o q e = unfold known in rw (o, e) (too-early (rw o) (not-passed b t e) (waits-card o e))
+        go false true z o q e = unfold known in rw (o, q) (too-early (rw (o, q)) (λ p. apart p o) (waits-trace q))
         go false false z o q e = unfold known in rw (o, q) (unknown (rw (o, q)))
 
   pub wrong-only : (b : Bool) (t : ℕ) {k : ℕ} → Wrong b fs t k → wrongNumber b last t ≡ k
