@@ -1,16 +1,18 @@
 /* Writes traces to standard output, the same for the same seed.
      generate KIND SEED [COUNT]   one trace; KIND is legal, sleeping (legal, with moves of clock-enable), paired (legal,
                                   of two parts), heated (legal, with fields of tag 34), programmed (legal, with tag 23
-                                  and writes of MR1), perturbed, hostile, disordered (with a tag where it may not come)
-                                  or far; about COUNT entries (far goes past 200,000 refreshes to the last of the 32-bit
-                                  cycles); a seed divisible by four takes the bench card
+                                  and writes of MR1), perturbed, hostile, disordered (with a tag where it may not come),
+                                  edged (with a period of 8 bytes whose last digits decide, or with one of another
+                                  length or out of range) or far; about COUNT entries (far goes past 200,000 refreshes
+                                  to the last of the 32-bit cycles); a seed divisible by four takes the bench card
      generate --many N SEED       N traces of mixed kinds, a third of them with sleeps, a third of two parts; a third,
-                                  whatever else they have, with fields of tag 34, and a third with tag 23 or writes of
-                                  MR1 that are listed; and every cut of some, each behind its length (4 bytes,
-                                  big-endian). More than a quarter of all have a wrong tag before anything else that is
-                                  wrong
-     generate --pick K            the K-th trace (from 1) of such a stream on standard input */
-#include "traces/orders.h"
+                                  whatever else they have, with fields of tag 34, a third with tag 23 or writes of MR1
+                                  that are listed, and two in five with a period of 8 bytes; and every cut of some, each
+                                  behind its length (4 bytes, big-endian). More than a quarter of all have a wrong tag
+                                  before anything else that is wrong
+     generate --pick K            the K-th trace (from 1) of such a stream on standard input
+     generate --fine              how many traces of such a stream have a period of 8 bytes */
+#include "traces/fractions.h"
 
 static void make(const char *kind, struct form form, uint64_t from, size_t count)
 {
@@ -26,6 +28,10 @@ static void make(const char *kind, struct form form, uint64_t from, size_t count
     }
     bool hostile = !strcmp(kind, "hostile"), disordered = !strcmp(kind, "disordered");
     legal(bench, form, count);
+    if (!strcmp(kind, "edged")) {
+        edge();
+        return;
+    }
     if (!strcmp(kind, "perturbed") || (hostile && one_in(4)) || (disordered && one_in(12)))
         for (unsigned n = one_in(2) ? 1 : (unsigned)between(2, 4); n--;)
             perturb();
@@ -67,6 +73,7 @@ static struct form some_form(void)
     form.heats = one_in(form.warms ? 2 : 20);
     form.programs = below(5) < 2; /* likewise */
     form.presets = form.programs && !one_in(3);
+    form.fine = below(5) < 2;
     return form;
 }
 
@@ -85,10 +92,14 @@ static void many(uint64_t n, uint64_t from)
                        : one_in(3)  ? below(100)
                                     : below(20);
         struct form form = some_form();
+        if (cuts)
+            form.fine = i / 1000 % 2 == 0;
         if (i % 25000 == 8) {
             form.sleeps = false;
             form.two = i % 50000 != 8;
         }
+        if (form.fine && !strcmp(kind, "legal") && !one_in(3))
+            kind = "edged";
         if (i % 25000 == 8 || (form.sleeps && one_in(40)))
             kind = "far";
         make(kind, form, own, count);
@@ -98,21 +109,44 @@ static void many(uint64_t n, uint64_t from)
     }
 }
 
+/* The next trace of a stream on standard input; false: there is none that is whole. */
+static bool read_framed(void)
+{
+    uint8_t b[4];
+    if (fread(b, 1, 4, stdin) != 4)
+        return false;
+    size_t n = (size_t)b[0] << 24 | (size_t)b[1] << 16 | (size_t)b[2] << 8 | b[3];
+    if (bytes.room < n)
+        bytes.p = grown(bytes.p, bytes.room = n);
+    bytes.n = n;
+    return fread(bytes.p, 1, n, stdin) == n;
+}
+
 static int pick(uint64_t k)
 {
-    while (k--) {
-        uint8_t b[4];
-        if (fread(b, 1, 4, stdin) != 4)
+    while (k--)
+        if (!read_framed())
             return 1;
-        size_t n = (size_t)b[0] << 24 | (size_t)b[1] << 16 | (size_t)b[2] << 8 | b[3];
-        if (bytes.room < n)
-            bytes.p = grown(bytes.p, bytes.room = n);
-        if (fread(bytes.p, 1, n, stdin) != n)
-            return 1;
-        bytes.n = n;
-    }
     write_bytes(bytes.p, bytes.n);
     return 0;
+}
+
+static void count_fine(void)
+{
+    uint64_t n = 0;
+    while (read_framed())
+        n += bytes.n >= 3 && !memcmp(bytes.p, (uint8_t[]){1, 0, 8}, 3);
+    printf("%llu\n", (unsigned long long)n);
+}
+
+static bool is_kind(const char *word)
+{
+    static const char *const kinds[] = {"legal",     "sleeping", "paired",     "heated", "programmed",
+                                        "perturbed", "hostile",  "disordered", "edged",  "far"};
+    for (size_t i = 0; i < sizeof kinds / sizeof *kinds; i++)
+        if (!strcmp(word, kinds[i]))
+            return true;
+    return false;
 }
 
 static int usage(void)
@@ -120,13 +154,18 @@ static int usage(void)
     fprintf(stderr, "usage: generate KIND SEED [COUNT]\n"
                     "       generate --many N SEED\n"
                     "       generate --pick K\n"
-                    "KIND: legal|sleeping|paired|heated|programmed|perturbed|hostile|disordered|far\n");
+                    "       generate --fine\n"
+                    "KIND: legal|sleeping|paired|heated|programmed|perturbed|hostile|disordered|edged|far\n");
     return 2;
 }
 
 int main(int argc, char **argv)
 {
     int status = 0;
+    if (argc == 2 && !strcmp(argv[1], "--fine")) {
+        count_fine();
+        return fflush(stdout) ? 2 : 0;
+    }
     if (argc < 3 || argc > 4)
         return usage();
     const char *kind = argv[1];
@@ -135,11 +174,12 @@ int main(int argc, char **argv)
         many(a, b);
     else if (!strcmp(kind, "--pick") && argc == 3)
         status = pick(a);
-    else if (!strcmp(kind, "legal") || !strcmp(kind, "sleeping") || !strcmp(kind, "paired") ||
-             !strcmp(kind, "heated") || !strcmp(kind, "programmed") || !strcmp(kind, "perturbed") ||
-             !strcmp(kind, "hostile") || !strcmp(kind, "disordered") || !strcmp(kind, "far")) {
+    else if (is_kind(kind)) {
         bool heated = !strcmp(kind, "heated"), programmed = !strcmp(kind, "programmed");
-        struct form form = {!strcmp(kind, "sleeping"), !strcmp(kind, "paired"), heated, heated, programmed, programmed};
+        struct form form = {.sleeps = !strcmp(kind, "sleeping"), .two = !strcmp(kind, "paired")};
+        form.warms = form.heats = heated;
+        form.programs = form.presets = programmed;
+        form.fine = !strcmp(kind, "edged");
         make(kind, form, a, b);
         write_bytes(bytes.p, bytes.n);
     } else

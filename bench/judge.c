@@ -227,12 +227,12 @@ static bool head(bool tag_fits, unsigned length)
 }
 
 /* False: a value out of range. */
-static bool read_value(struct card *c, unsigned tag, const uint8_t *p)
+static bool read_value(struct card *c, unsigned tag, const uint8_t *p, unsigned length)
 {
     switch (tag) {
     case 1:
-        c->period = big(p, 4);
-        return c->period >= 938 && c->period <= 100000;
+        c->period = length == 8 ? big8(p) : FS * big(p, 4);
+        return c->period >= FS * 938 && c->period <= FS * 100000;
     case 2:
         c->mr2 = *p;
         return latency_of(c->mr2, c->period);
@@ -241,7 +241,7 @@ static bool read_value(struct card *c, unsigned tag, const uint8_t *p)
         return c->r >= 1 && c->r <= 16384;
     case 4:
         c->refi = big(p, 4);
-        return c->refi >= c->period && c->refi <= 20000000;
+        return FS * c->refi >= c->period && c->refi <= 20000000;
     case 23:
         c->presets = true;
         c->mr1 = *p;
@@ -271,17 +271,27 @@ static unsigned next_tag(unsigned tag)
     return tag < found && (found == 23 || found == 25 || found == 26) ? found : 0;
 }
 
-static bool read_card(struct card *c)
+/* What a card tag must say of its value's length, if this is what it says: the period has 4 bytes or 8. */
+static unsigned length_of(unsigned tag, unsigned said)
 {
-    static const uint8_t lengths[] = {4, 1, 2, 4};
+    static const uint8_t lengths[] = {[1] = 4, [2] = 1, [3] = 2, [4] = 4, [23] = 1, [25] = 1, [26] = 4};
+    if (tag == 1 && said == 8)
+        return 8;
+    return lengths[tag] ? lengths[tag] : 5;
+}
+
+/* Not inlined: the loop over entries would have fewer registers. */
+static __attribute__((noinline)) bool read_card(struct card *c)
+{
     memset(c, 0, sizeof *c);
     in.tags = 0;
     for (unsigned tag = 1; tag; tag = next_tag(tag)) {
-        unsigned length = tag <= 4 ? lengths[tag - 1] : tag == 23 || tag == 25 ? 1 : tag == 26 ? 4 : 5;
-        bool fits = have(1) && in.buf[in.at] == tag;
-        if (!head(fits, length))
+        size_t n = have(3);
+        const uint8_t *p = in.buf + in.at;
+        unsigned length = length_of(tag, n < 3 ? 0 : big(p + 1, 2));
+        if (!head(n && *p == tag, length))
             return false;
-        if (!read_value(c, tag, in.buf + in.at + 3)) {
+        if (!read_value(c, tag, in.buf + in.at + 3, length)) {
             refused(4, 0, 0);
             return false;
         }

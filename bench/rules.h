@@ -36,7 +36,8 @@ enum timing {
 enum level { AWAKE, POWER_DOWN, SELF_REFRESH, DEEP };
 
 struct card {
-    uint32_t period, refi, r;
+    uint64_t period; /* in fs; other times are in ps */
+    uint32_t refi, r;
     uint8_t mr2;
     bool sleeps;  /* tags 19 to 22 are there */
     bool presets; /* tag 23 is there */
@@ -49,9 +50,11 @@ struct card {
     uint8_t floor[TIMINGS];
 };
 
+#define FS UINT64_C(1000) /* in a ps */
+
 struct latency {
     uint8_t code;
-    uint16_t least;
+    uint16_t least; /* period, in ps */
     uint8_t rl, wl[2];
 };
 
@@ -62,12 +65,12 @@ static const struct latency latencies[] = {
 };
 
 /* The row of an MR2 value that MRW may write under this period, or null. */
-static inline const struct latency *latency_of(uint8_t mr2, uint32_t period)
+static inline const struct latency *latency_of(uint8_t mr2, uint64_t period)
 {
     if (mr2 & 0xA0)
         return 0;
     for (unsigned i = 0; i < sizeof latencies / sizeof *latencies; i++)
-        if (latencies[i].code == (mr2 & 15) && latencies[i].least <= period)
+        if (latencies[i].code == (mr2 & 15) && FS * latencies[i].least <= period)
             return &latencies[i];
     return 0;
 }
@@ -173,15 +176,15 @@ struct refusal {
 
 INLINE unsigned is_write(enum kind k) { return k == WR || k == WRA; }
 
-static inline int64_t clocks(const struct card *c, int64_t ps, int64_t floor)
+static inline int64_t clocks(const struct card *c, uint64_t ps, int64_t floor)
 {
-    int64_t n = (ps + c->period - 1) / c->period;
+    int64_t n = (int64_t)((FS * ps + c->period - 1) / c->period);
     return n > floor ? n : floor;
 }
 
-static inline struct warm warm_by(const struct card *c, int64_t ps)
+static inline struct warm warm_by(const struct card *c, uint64_t ps)
 {
-    int64_t rc = (int64_t)c->ps[tRAS] + c->ps[tRPpb] + 2 * ps;
+    uint64_t rc = c->ps[tRAS] + c->ps[tRPpb] + 2 * ps;
     return (struct warm){
         .rcd = clocks(c, c->ps[tRCD] + ps, c->floor[tRCD]),
         .rppb = clocks(c, c->ps[tRPpb] + ps, c->floor[tRPpb]),
@@ -197,7 +200,7 @@ static const uint8_t quarters[8] = {0, 16, 8, 4, 2, 1, 1, 0};
 
 static inline int64_t interval_of(const struct card *c, unsigned mr4)
 {
-    int64_t n = (int64_t)c->refi * quarters[mr4 & 7] / (4 * (int64_t)c->period);
+    int64_t n = (int64_t)(FS * c->refi * quarters[mr4 & 7] / (4 * c->period));
     return n > 1 ? n : 1;
 }
 
@@ -258,7 +261,7 @@ static inline void begin(struct record *r, const struct card *c)
     r->cke = n[tCKE], r->xp = n[tXP], r->ckesr = n[tCKESR], r->xsr = n[tXSR];
     r->steady = 1;
     r->to_pre[0] = r->to_own[0] = n[tRTP] > 4 ? n[tRTP] : 4;
-    r->interval = c->refi / c->period;
+    r->interval = (int64_t)(FS * c->refi / c->period);
     r->fail = 9 * r->interval;
     r->fail_rule = 19;
     set_modes(r, c->presets ? c->mr1 : UNLISTED, c->mr2);

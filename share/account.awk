@@ -30,7 +30,7 @@ function take_field(b, k) {
 
 # An interval of so many quarters of tREFI, in cycles.
 function interval_by(quarters,    cycles) {
-    cycles = int(in_ps("trefi") * quarters / (4 * in_ps("period")))
+    cycles = int(1000 * in_ps("trefi") * quarters / (4 * period_in_fs()))
     return cycles > 1 ? cycles : 1
 }
 

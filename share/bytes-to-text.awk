@@ -25,8 +25,8 @@ function take(byte) {
         lose(ended ? "bytes behind the end field" : wrong_tag(byte))
         aligned = !ended
     }
-    if (!lost && n == 3 && number_at(b, 2, 2) != SIZE[b[1]])
-        lose("a length other than the listed one")
+    if (!lost && n == 3 && !has_length(b[1], number_at(b, 2, 2)))
+        lose("a length other than the listed one" ((b[1] in LONG) ? "s, " SIZE[b[1]] " and " LONG[b[1]] : ""))
     if (!lost && is_field(b, n))
         put_field()
     if (aligned && (b[1] in GROUP) && is_field(b, n))

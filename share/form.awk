@@ -1,5 +1,5 @@
 # The form of a trace: the card's fields by tag, commands and moves of clock-enable on the pins, a field as text. Document 01, "The file" and "Commands on the
-# pins"; document 02, One, Two, Three, Nine and Eleven.
+# pins"; document 02, One, Two, Three, Four, Nine and Eleven.
 # Numbers of 32 bits are printed by %.0f: %d stops at 2^31 - 1 in some awks.
 
 BEGIN {
@@ -8,7 +8,8 @@ BEGIN {
     group(23, "mr1")
     group(25, "gap")
     group(26, "raise")
-    SIZE[1] = 4; SIZE[2] = 1; SIZE[3] = 2; SIZE[4] = 4; SIZE[23] = SIZE[25] = 1; SIZE[26] = 4
+    # the period has a second length: in ps it takes the first, in fs the second
+    SIZE[1] = 4; LONG[1] = 8; SIZE[2] = 1; SIZE[3] = 2; SIZE[4] = 4; SIZE[23] = SIZE[25] = 1; SIZE[26] = 4
     ENTRY = 32; SIZE[ENTRY] = 7; TITLE[ENTRY] = "an entry"
     LAST = 33; SIZE[LAST] = 4; TITLE[LAST] = "the end field"
     HEAT = 34; SIZE[HEAT] = 5; TITLE[HEAT] = "an MR4 field"
@@ -247,9 +248,34 @@ function number_at(b, from, count,    x) {
     return x
 }
 
+# The same number in decimal, as text: an awk's own numbers are exact up to 2^53 only, and 8 bytes hold more.
+function decimal_at(b, from, count,    part, k, carry, text) {
+    for (; count-- > 0; from++) {
+        carry = b[from]
+        for (k = 4; k >= 1; k--) {
+            carry += 256 * part[k]
+            part[k] = carry % 1000000
+            carry = int(carry / 1000000)
+        }
+    }
+    text = sprintf("%06d%06d%06d%06d", part[1], part[2], part[3], part[4])
+    sub(/^0+/, "", text)
+    return text == "" ? "0" : text
+}
+
+# Whether the value of a field with this tag may have so many bytes.
+function has_length(tag, count) {
+    return (tag in SIZE) && (count == SIZE[tag] || (tag in LONG) && count == LONG[tag])
+}
+
+# How many bytes the value of the field in b has; where its head does not say one of the tag's lengths, the first of them.
+function length_in(b) {
+    return has_length(b[1], number_at(b, 2, 2)) ? number_at(b, 2, 2) : SIZE[b[1]]
+}
+
 # Whether the first n bytes of b are a whole field, of a listed length.
 function is_field(b, n) {
-    return n >= 4 && (b[1] in SIZE) && number_at(b, 2, 2) == SIZE[b[1]] && n >= 3 + SIZE[b[1]]
+    return n >= 4 && has_length(b[1], number_at(b, 2, 2)) && n >= 3 + number_at(b, 2, 2)
 }
 
 # The line of text that stands for the field in b, an entry as the mode reads it.
@@ -265,6 +291,8 @@ function field_text(b, mode,    tag) {
         return sprintf("%s 0x%02x", NAME[tag], b[4])
     if (SIZE[tag] == 5)
         return sprintf("%s %.0f %d", NAME[tag], number_at(b, 4, 4), b[8])
+    if (length_in(b) != SIZE[tag])
+        return NAME[tag] " " decimal_at(b, 4, length_in(b)) " fs"
     return sprintf("%s %.0f", NAME[tag], number_at(b, 4, SIZE[tag]))
 }
 

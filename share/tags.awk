@@ -7,9 +7,9 @@ function explain_tag(number, expected, offset, b, n, mode,    tag, behind) {
     print "expect " expect_text(expected, behind)
     print "where  " tag_text(tag) ((tag in SIZE) ? "" : ", " says["tag unknown"]) ", " place_behind(offset, behind) ": " standing(b, n, mode)
     if (tag in NAME)
-        print "field  " NAME[tag] ": " says["field " tag]
+        print "field  " NAME[tag] ": " field_words(tag, b)
     if (tag_fault(behind, tag) == number && tag_expected(begins, tag) == expected)
-        print "mend   " mend_text(number, expected, offset, tag, behind) (is_field(b, n) ? "" : says[offset > 0 ? "mend shifted" : "mend text"])
+        print "mend   " mend_text(number, expected, offset, b, behind) (is_field(b, n) ? "" : says[offset > 0 ? "mend shifted" : "mend text"])
     if ((expected in GROUP) && GROUP[expected] > 1)
         print "group  " tags_text(GROUP[expected], group_end(expected)) ": " says["group"]
 }
@@ -61,7 +61,8 @@ function clashes(tag,    mode) {
     return mode != card_mode && mode != "one" && card_mode != "one"
 }
 
-function mend_text(number, expected, offset, tag, behind,    text, found) {
+function mend_text(number, expected, offset, b, behind,    tag, text, found) {
+    tag = b[1]
     if (number == 17)
         return says["mend unknown"]
     if (clashes(tag))
@@ -71,7 +72,7 @@ function mend_text(number, expected, offset, tag, behind,    text, found) {
     text = number == 18 ? fill("mend seen", begins[tag], value[NAME[tag]]) : fill("mend early", tags_text(expected, missing_to(expected, tag)))
     found = found_behind(expected, offset)
     if (!found)
-        return text meant_text(expected, tag, behind)
+        return text meant_text(expected, b, behind)
     return text (number == 18 ? "" : fill(found == offset + 3 + SIZE[tag] ? "mend next" : "mend found", tag_text(expected), found))
 }
 
@@ -99,14 +100,14 @@ function missing_to(expected, tag,    k) {
 }
 
 # A card field may be the expected one under a wrong tag where its length would do.
-function meant_text(expected, tag, behind) {
-    return (tag in GROUP) && (expected in GROUP) && SIZE[tag] == SIZE[expected] && may_follow(behind, expected) ? fill("mend meant", tag_text(expected)) : ""
+function meant_text(expected, b, behind) {
+    return (b[1] in GROUP) && (expected in GROUP) && has_length(expected, length_in(b)) && may_follow(behind, expected) ? fill("mend meant", tag_text(expected)) : ""
 }
 
 # Where a field with this tag stands behind the one at the offset, near it and with none but whole fields between; 0 if none does.
 function found_behind(tag, offset,    b, n, k) {
     n = read_bytes(offset, 8 * TOP, b)
-    for (k = 3 + number_at(b, 2, 2); k < n && (b[k + 1] in SIZE) && number_at(b, k + 2, 2) == SIZE[b[k + 1]]; k += 3 + SIZE[b[k + 1]])
+    for (k = 3 + number_at(b, 2, 2); k < n && has_length(b[k + 1], number_at(b, k + 2, 2)); k += 3 + number_at(b, k + 2, 2))
         if (b[k + 1] == tag)
             return offset + k
     return 0

@@ -4,6 +4,9 @@ BEGIN {
     from = ENVIRON["FROM"]
     # the mode where it is not known: in a text without a card, and behind raw
     UNKNOWN = "unknown"
+    # what is taken for a unit; the first two are units of the period
+    UNITS = "(fs|ps|ns|us|ms|s|ck|nck|tck|clocks)$"
+    PERIOD = "wanted are whole ps (1250 or 1250 ps), ps with one to three digits behind a point (1071.811 ps), or whole fs (1071811 fs)"
     # document 01's bench card
     split("1250 0x1a 8192 3900000 18000/3 18000/3 21000/3 42000/3 10000/2 50000/8 7500/4 15000/4 7500/4 5500/0 130000/0 60000/0 0/4 0/10", BENCH, " ")
     for (k = 0; k < 256; k++)
@@ -96,9 +99,7 @@ function card_line(word,    tag, both) {
     else if (word != "card") {
         if (given[word]++)
             bad(word " is given twice")
-        tag = TAG[word]
-        set_value(tag, $2, $3)
-        no_more(SIZE[tag] == 5 ? 3 : 2)
+        value_line(TAG[word])
     } else if (carded)
         bad("card bench stands once, before the values that differ")
     else if (tolower($2) != "bench")
@@ -113,13 +114,98 @@ function card_line(word,    tag, both) {
     carded = 1
 }
 
+function value_line(tag) {
+    if (tag in LONG)
+        period_line(tag, tolower($3))
+    else if (unit_word() != "")
+        bad(NAME[tag] ": " unit_word() " is out of place: the period alone takes a unit; durations are in ps, floors in clocks")
+    else {
+        set_value(tag, $2, $3)
+        no_more(SIZE[tag] == 5 ? 3 : 2)
+    }
+    if (!(tag in value))
+        keep(tag, "")
+}
+
+# The first word of the line that is a unit, or a number and a unit in one.
+function unit_word(    i) {
+    for (i = 2; i <= NF; i++)
+        if (tolower($i) ~ "^[0-9.]*" UNITS)
+            return $i
+    return ""
+}
+
+function keep(tag, octals) {
+    value[tag] = octals
+    wanted[GROUP[tag]] = 1
+}
+
 # A timing is a duration of 4 bytes and a floor of 1; any other value is one number as long as its field.
 function set_value(tag, first, second,    size) {
     size = SIZE[tag] == 5 ? 4 : SIZE[tag]
-    value[tag] = octal(number(first, (size == 4 ? 4294967296 : POW[8 * size]) - 1, NAME[tag]), size)
-    if (SIZE[tag] == 5)
-        value[tag] = value[tag] octal(number(second, 255, NAME[tag] ", floor"), 1)
-    wanted[GROUP[tag]] = 1
+    first = octal(number(first, (size == 4 ? 4294967296 : POW[8 * size]) - 1, NAME[tag]), size)
+    keep(tag, first (SIZE[tag] == 5 ? octal(number(second, 255, NAME[tag] ", floor"), 1) : ""))
+}
+
+# The period takes its first length in whole ps, its second in fs and in ps with a point.
+function period_line(tag, unit,    fault) {
+    fault = $2 == "" ? "a number is missing" : period_fault($2, unit)
+    if (fault != "") {
+        bad(NAME[tag] ": " fault "; " PERIOD)
+        return
+    }
+    if (unit == "fs")
+        keep(tag, long_octal($2))
+    else if ($2 ~ /\./)
+        keep(tag, long_octal(in_fs($2)))
+    else
+        set_value(tag, $2)
+    no_more(3)
+}
+
+# What is wrong with a period that is written as this word and this unit, if anything is.
+function period_fault(word, unit) {
+    if (word ~ /^[-+]/)
+        return word " has a sign"
+    if (word ~ /^[0-9.]+[eE][-+]?[0-9]*$/)
+        return word " has an exponent"
+    if (tolower(word) ~ "^[0-9.]+" UNITS)
+        return word " has no blank before its unit"
+    if (word !~ /^[0-9]+(\.[0-9]+)?$/ && word !~ /^0[xX][0-9a-fA-F]+$/)
+        return word " is no number"
+    if (unit != "" && unit != "ps" && unit != "fs")
+        return "unknown unit " $3
+    if (word ~ /\.[0-9][0-9][0-9][0-9]/)
+        return word " has more than three digits behind the point"
+    if (word ~ /\./ && unit != "ps")
+        return unit == "" ? word " has a point and no unit" : word " has a point, and fs are whole"
+    return ""
+}
+
+# Picoseconds with a point, as femtoseconds.
+function in_fs(word,    half) {
+    split(word, half, ".")
+    return half[1] substr(half[2] "00", 1, 3)
+}
+
+# A whole number in 8 bytes. It is taken digit by digit: an awk's own numbers are exact up to 2^53 only.
+function long_octal(word,    base, i, k, carry, part, text) {
+    base = word ~ /^0[xX]/ ? 16 : 10
+    for (i = base == 16 ? 3 : 1; i <= length(word); i++) {
+        carry = digit(substr(word, i, 1))
+        for (k = 8; k >= 1; k--) {
+            carry += base * part[k]
+            part[k] = carry % 256
+            carry = int(carry / 256)
+        }
+        if (carry > 0) {
+            bad("period: " word " fs is above 18446744073709551615")
+            return ""
+        }
+    }
+    for (k = 1; k <= 8; k++)
+        text = text octal(part[k], 1)
+    return text
 }
 
 # Puts the card, before the first line that is none of it.
@@ -134,7 +220,7 @@ function begin(    tag, missing) {
             continue
         if (!(tag in value))
             missing = missing " " NAME[tag]
-        put(octal(tag, 1) octal(SIZE[tag], 2) value[tag])
+        put(octal(tag, 1) octal(length(value[tag]) / length(OCTAL[0]), 2) value[tag])
         mode = mode_behind(tag, mode)
     }
     if (missing != "")

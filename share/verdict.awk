@@ -46,6 +46,12 @@ function read_bytes(offset, count, b,    command, line, n, m, i, part) {
     return n + 0
 }
 
+# The field at the offset, into b, or as many bytes as an entry has where none stands there; how many bytes there are.
+function read_field(offset, b,    n) {
+    n = read_bytes(offset, 3 + SIZE[ENTRY], b)
+    return (b[1] in LONG) && length_in(b) == LONG[b[1]] ? read_bytes(offset, 3 + LONG[b[1]], b) : n
+}
+
 # Two ledgers are those of two parts.
 function explain_counts(    k, text) {
     read_words()
@@ -56,11 +62,11 @@ function explain_counts(    k, text) {
 
 function explain_refusal(number, rule, offset, cycle,    b, n, mode, due) {
     read_words()
-    print "why    " number ": " says["number " number]
+    n = read_field(offset, b)
+    print "why    " number ": " words("number " number, "of tag " b[1])
     read_card(offset)
     heats = offset > size ? int((offset - size - (3 + SIZE[ENTRY]) * entries) / (3 + SIZE[HEAT])) : 0
     mode = mode_before(number == 12 ? offset - 3 - SIZE[LAST] : offset)
-    n = read_bytes(offset, 3 + SIZE[ENTRY], b)
     if (number >= 17 && number <= 19) {
         explain_tag(number, rule, offset, b, n, mode)
         return
@@ -71,13 +77,13 @@ function explain_refusal(number, rule, offset, cycle,    b, n, mode, due) {
     due = card_tag(offset, b[1])
     print "where  " place(number, due, b[1]) sprintf(", at byte %.0f: ", offset) standing(b, n, mode)
     if (due)
-        print "field  " NAME[due] ": " says["field " due]
+        print "field  " NAME[due] ": " field_words(due, b)
     else if (number != 12 && is_field(b, n) && b[1] == ENTRY)
         explain_entry(number, rule, offset, cycle, number_at(b, 8, 3), mode)
     if (number == 11 && (mode == "two" || heats > 0))
         explain_account(offset, rule, cycle, b)
     if (number == 4 || number == 9)
-        print "range  " says["range " ranged(number, due, number_at(b, 8, 3), mode)]
+        print "range  " range_text(ranged(number, due, number_at(b, 8, 3), mode), b)
     if (rule > 0)
         print "cycle  " cycle ": " says["cycle " number]
 }
@@ -90,6 +96,25 @@ function ranged(number, due, p, mode,    v) {
     return TAG["mr" v["ma"]]
 }
 
+# The range of the value in b. Where the period is in fs it is told beside what it bounds.
+function range_text(tag, b,    period) {
+    if (tag in LONG)
+        return words("range " tag, "of " length_in(b))
+    period = value["period"]
+    sub(/^period /, "", period)
+    return period ~ /fs$/ ? fill("range " tag, " (" period ")", " ps") : fill("range " tag, "", "")
+}
+
+# What a card value is; b has the bytes in its place.
+function field_words(tag, b) {
+    return words("field " tag, b[1] == tag ? "of " number_at(b, 2, 2) : "")
+}
+
+# The words of a key, or of the key with more to it where that has its own.
+function words(key, more) {
+    return says[((key " " more) in says) ? key " " more : key]
+}
+
 # Takes the card's fields before the offset: `size` bytes of them, the last one with tag `last`, their offsets by tag in begins, their text in value, the first byte
 # of each value in byte, and how pins are read behind them. Behind the card, and before the offset, stand as many entries as there are lines, and `heats`
 # temperature fields.
@@ -99,12 +124,13 @@ function read_card(offset,    b, field, k) {
     card_mode = "one"
     while (size < offset && b[size + 1] in GROUP) {
         last = b[size + 1]
-        for (k = 1; k <= 3 + SIZE[last]; k++)
+        # as many bytes as the longest card field has
+        for (k = 1; k <= 3 + LONG[1]; k++)
             field[k] = b[size + k]
         begins[last] = size
         value[NAME[last]] = field_text(field)
         byte[NAME[last]] = field[4]
-        size += 3 + SIZE[last]
+        size += 3 + length_in(field)
         card_mode = mode_behind(last, card_mode)
     }
 }
@@ -266,6 +292,12 @@ function in_ps(name,    word) {
     return word[2] + 0
 }
 
+# The period in fs: one without a unit is in ps.
+function period_in_fs(    word) {
+    split(value["period"], word, " ")
+    return word[3] == "fs" ? word[2] + 0 : 1000 * word[2]
+}
+
 # A term with the card's values that enter it.
 function in_clocks(term,    name, n, i, text) {
     n = split(substr(term, 3, length(term) - 3), name, / \+ /)
@@ -282,7 +314,8 @@ function clocks(term,    name, part, n, i, duration, floor, period, count) {
         duration += part[2]
         floor += part[3]
     }
-    period = in_ps("period")
+    duration *= 1000
+    period = period_in_fs()
     count = int(duration / period)
     if (term ~ /^i/)
         return count

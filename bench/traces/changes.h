@@ -28,9 +28,10 @@ static void perturb_tag_25(struct card *c)
 
 static const uint32_t edges[] = {0, 1, 999999, 1000000, 1000001, UINT32_MAX};
 
-static uint32_t beside(uint32_t ps, uint32_t period)
+static uint32_t beside(uint32_t ps, uint64_t period)
 {
-    return one_in(2) ? near(ps) : ps + (one_in(2) ? period : 0u - period);
+    uint32_t by = (uint32_t)(period / FS);
+    return one_in(2) ? near(ps) : ps + (one_in(2) ? by : 0u - by);
 }
 
 static void perturb_tag_26(struct card *c)
@@ -41,28 +42,75 @@ static void perturb_tag_26(struct card *c)
         c->heat = one_in(2) ? PICK(edges) : beside(c->heat, c->period);
 }
 
+/* A period of 8 bytes: a number that no card has, a bit set or a good value in the upper half, a fs more or less, or
+   cut or rounded up to ps. */
+static uint64_t fine_near(uint64_t period)
+{
+    static const uint64_t odd[] = {0,         938,        1250,      937999,            938000,    100000000,
+                                   100000001, UINT32_MAX, INT64_MAX, UINT64_C(1) << 63, UINT64_MAX};
+    switch (below(8)) {
+    case 0:
+    case 1:
+        return PICK(odd);
+    case 2:
+        return period | UINT64_C(1) << (one_in(4) ? 63 : between(32, 63));
+    case 3:
+        return period << 8 * between(1, 4);
+    case 4:
+        return period / FS * FS;
+    case 5:
+        return (period + FS - 1) / FS * FS;
+    default:
+        return one_in(2) ? period + 1 : period - 1;
+    }
+}
+
+static void perturb_period(struct card *c)
+{
+    static const uint32_t odd[] = {0, 937, 938, 100000, 100001, 1250000, 4296218, UINT32_MAX};
+    if (one_in(6))
+        trace.fine = !trace.fine;
+    else if (trace.fine)
+        c->period = fine_near(c->period);
+    else
+        c->period = FS * (one_in(2) ? PICK(odd) : near((uint32_t)(c->period / FS)));
+}
+
+/* tREFI at its bounds, or where whole intervals end. */
+static void perturb_refi(struct card *c)
+{
+    uint64_t fs = FS * c->refi, whole = c->period ? fs - fs % c->period : 0;
+    uint32_t least = (uint32_t)((c->period + FS - 1) / FS), up = (uint32_t)((whole + FS - 1) / FS);
+    uint32_t refis[] = {least - 1, least, 20000000, 20000001, near(c->refi), up, up - 1};
+    c->refi = PICK(refis);
+}
+
+static void perturb_mr2(struct card *c)
+{
+    if (one_in(3))
+        c->mr2 = edge_mr2(c->period);
+    else
+        c->mr2 = (uint8_t)(one_in(2) ? below(256) : c->mr2 ^ 1u << below(8));
+}
+
 static void perturb_card(struct card *c)
 {
-    static const uint32_t periods[] = {0, 937, 938, 100000, 100001, UINT32_MAX};
     static const uint32_t rs[] = {0, 1, 16384, 16385, 65535};
     static const uint8_t floors[] = {0, 1, 254, 255};
     unsigned i = (unsigned)below(timings(c));
     switch (below(11)) {
     case 0:
-        c->period = one_in(2) ? PICK(periods) : near(c->period);
+        perturb_period(c);
         break;
     case 1:
-        c->mr2 = (uint8_t)(one_in(2) ? below(256) : c->mr2 ^ 1u << below(8));
+        perturb_mr2(c);
         break;
     case 2:
         c->r = PICK(rs);
         break;
-    case 3: {
-        uint32_t whole = c->period ? c->refi - c->refi % c->period : 0;
-        uint32_t refis[] = {c->period - 1, c->period, 20000000, 20000001, near(c->refi), whole};
-        c->refi = PICK(refis);
+    case 3:
+        perturb_refi(c);
         break;
-    }
     case 4:
         c->ps[i] = PICK(edges);
         break;

@@ -21,7 +21,7 @@ static bool one_in(unsigned n) { return below(n) == 0; }
 #define PICK(list) (list)[below(sizeof(list) / sizeof *(list))]
 
 static const struct card bench_card = {
-    .period = 1250,
+    .period = 1250 * FS,
     .mr2 = 0x1A,
     .r = 8192,
     .refi = 3900000,
@@ -34,9 +34,9 @@ static const uint32_t sleep_ps[] = {7500, 10000, 15000, 140000};
 static const uint8_t sleep_floors[] = {3, 3, 3, 2};
 
 /* What a trace has beyond document 01: tags 19 to 22, tag 25, fields of tag 34, tag 26, writes of MR1 that may be
-   listed, tag 23. */
+   listed, tag 23, a period of 8 bytes. */
 struct form {
-    bool sleeps, two, warms, heats, programs, presets;
+    bool sleeps, two, warms, heats, programs, presets, fine;
 };
 
 static uint8_t random_mr1(void) { return (uint8_t)((draw() & 0xF8) | 3); }
@@ -54,9 +54,14 @@ static void add_form(struct card *c, struct form form)
         memcpy(c->ps + tCKE, sleep_ps, sizeof sleep_ps);
         memcpy(c->floor + tCKE, sleep_floors, sizeof sleep_floors);
     }
+    if (form.fine)
+        c->period += (uint64_t)below(FS);
 }
 
-static uint8_t random_mr2(uint32_t period)
+/* The least number of ps that is not below so many fs. */
+static int64_t ps_of(int64_t fs) { return (fs + (int64_t)FS - 1) / (int64_t)FS; }
+
+static uint8_t random_mr2(uint64_t period)
 {
     uint8_t v;
     do
@@ -65,17 +70,33 @@ static uint8_t random_mr2(uint32_t period)
     return v;
 }
 
+/* An MR2 value of the last row that this period permits, or of the first that it does not. */
+static uint8_t edge_mr2(uint64_t period)
+{
+    unsigned i = 0, last = sizeof latencies / sizeof *latencies - 1;
+    while (i < last && FS * latencies[i].least > period)
+        i++;
+    if (i && one_in(2))
+        i--;
+    return (uint8_t)((draw() & 0x50) | latencies[i].code);
+}
+
 static void random_timing(struct card *c, unsigned i, unsigned style)
 {
     if (style == 0) {
         c->ps[i] = (uint32_t)(c->ps[i] * between(50, 150) / 100);
     } else if (style == 1) {
-        c->ps[i] = (uint32_t)(below(20) * c->period);
+        c->ps[i] = (uint32_t)(below(20) * (int64_t)c->period / (int64_t)FS);
         c->ps[i] = c->ps[i] ? c->ps[i] - (uint32_t)below(3) + 1 : 0;
         c->floor[i] = (uint8_t)below(20);
     } else if (style == 2) {
         c->ps[i] = (uint32_t)below(one_in(4) ? 200000 : 30000);
         c->floor[i] = (uint8_t)(one_in(3) ? below(16) : 0);
+    } else if (style == 4) {
+        /* just below whole periods or above, so many that their fractions add up */
+        c->ps[i] = (uint32_t)(between(1, one_in(4) ? 900 : 40) * (int64_t)c->period / (int64_t)FS);
+        c->ps[i] += (uint32_t)below(2);
+        c->floor[i] = (uint8_t)below(3);
     } else if (one_in(12)) {
         c->ps[i] = one_in(2) ? 1000000 : 0;
         c->floor[i] = one_in(2) ? 255 : 0;
@@ -84,9 +105,9 @@ static void random_timing(struct card *c, unsigned i, unsigned style)
         c->ps[i] = 1000000;
 }
 
-static uint32_t random_heat(uint32_t period)
+static uint32_t random_heat(uint64_t period)
 {
-    int64_t heat = period * between(1, 8);
+    int64_t heat = between(1, 8) * (int64_t)period / (int64_t)FS;
     heat = one_in(2) ? below(30000) : heat + below(3) - 1;
     if (one_in(8))
         heat = 1000000 * below(2);
@@ -96,13 +117,71 @@ static uint32_t random_heat(uint32_t period)
 /* tREFI of a few periods, and delays so short that refreshes keep up. */
 static void hurry(struct card *c)
 {
-    c->refi = (uint32_t)(c->period * between(1, 9));
-    c->refi += (uint32_t)below(c->period);
+    int64_t period = (int64_t)(c->period / FS);
+    c->refi = (uint32_t)ps_of(between(1, 9) * (int64_t)c->period);
+    c->refi += (uint32_t)below(period);
     for (unsigned i = 0; i < timings(c); i++) {
-        c->ps[i] = one_in(2) ? 0 : (uint32_t)below(c->period);
+        c->ps[i] = one_in(2) ? 0 : (uint32_t)below(period);
         c->floor[i] = (uint8_t)below(2);
     }
-    c->heat = c->heats ? (uint32_t)below(c->period) : 0;
+    c->heat = c->heats ? (uint32_t)below(period) : 0;
+}
+
+/* tREFI that makes just this interval, by one of the MR4 codes, or a ps less. */
+static uint32_t refi_beside(const struct card *c, int64_t interval)
+{
+    int64_t least = ps_of((int64_t)c->period), refi = 4 * interval * (int64_t)c->period / quarters[between(1, 6)];
+    refi = ps_of(refi) - below(2);
+    return (uint32_t)(refi < least ? least : refi > 20000000 ? 20000000 : refi);
+}
+
+/* Some number of these makes a duration of the bench card, or a few fs less or more. */
+static uint64_t even_period(void)
+{
+    static const uint32_t durations[] = {5500, 7500, 10000, 15000, 18000, 21000, 42000, 50000, 60000};
+    uint32_t ps = PICK(durations);
+    uint64_t cycles = (uint64_t)between(1, ps / 938);
+    return FS * ps / cycles + (uint64_t)below(2);
+}
+
+/* In fs: at the edges of the range and of the rows of latencies, of the kind that 933 MHz has, whole in ps, any. */
+static uint64_t fine_period(void)
+{
+    static const uint32_t known[] = {938000, 938001, 1071429, 1071811, 33333333, 99999999, 100000000};
+    uint64_t least = latencies[between(0, 7)].least;
+    switch (below(7)) {
+    case 0:
+        return PICK(known);
+    case 1:
+    case 2:
+        return FS * least + (uint64_t)below(3) - 1;
+    case 3:
+        return even_period();
+    case 4:
+        return FS * (uint64_t)between(938, 2000);
+    case 5:
+        return (uint64_t)between(938000, 2500000);
+    default:
+        return (uint64_t)between(938000, 100000000);
+    }
+}
+
+/* By which one of the delays that heat moves comes beside whole periods. */
+static uint32_t heat_beside(const struct card *c)
+{
+    static const uint8_t moved[] = {tRCD, tRPpb, tRPab, tRAS, tRRD};
+    int64_t ps = c->ps[PICK(moved)], period = (int64_t)c->period, least = ps * (int64_t)FS / period + 1;
+    int64_t heat = (least + below(8)) * period / (int64_t)FS - ps;
+    heat += below(2);
+    return heat > 1000000 ? 1000000 : (uint32_t)heat;
+}
+
+/* Where a fraction of a ps shows: delays and tREFI beside whole periods. */
+static unsigned refine(struct card *c, int64_t interval, unsigned style)
+{
+    if (one_in(2))
+        c->refi = refi_beside(c, interval);
+    return one_in(2) ? 4 : style;
 }
 
 static void random_card(struct card *c, struct form form)
@@ -114,20 +193,24 @@ static void random_card(struct card *c, struct form form)
     if (c->two)
         c->gap = (uint8_t)(one_in(4) ? below(256) : below(6));
     bool heat = c->heats && !one_in(3);
-    c->period = one_in(3) ? (uint32_t)between(938, 100000) : one_in(3) ? 1250 : PICK(periods);
+    c->period = FS * (one_in(3) ? (uint32_t)between(938, 100000) : one_in(3) ? 1250 : PICK(periods));
+    if (form.fine)
+        c->period = fine_period();
     c->mr2 = random_mr2(c->period);
     c->r = (uint16_t)between(1, 16384);
     int64_t interval = one_in(8) ? between(1, 20) : one_in(2) ? between(20, 600) : between(600, 22000);
-    int64_t refi = interval * c->period + below(c->period);
+    int64_t refi = ps_of(interval * (int64_t)c->period) + below((int64_t)(c->period / FS));
     c->refi = refi > 20000000 ? 20000000 : (uint32_t)refi;
     unsigned style = (unsigned)below(4);
+    if (form.fine)
+        style = refine(c, interval, style);
     for (unsigned i = 0; i < timings(c); i++)
         random_timing(c, i, style);
     int64_t four = c->ps[tRRD] * between(3, 6);
     if (one_in(2))
         c->ps[tFAW] = four > 1000000 ? 1000000 : (uint32_t)four;
     if (heat)
-        c->heat = random_heat(c->period);
+        c->heat = form.fine && !one_in(3) ? heat_beside(c) : random_heat(c->period);
     if (form.programs && one_in(2)) {
         /* the registers are written while a write counts */
         c->ps[tMRW] = 0;
@@ -164,7 +247,7 @@ static uint32_t encode(enum kind k, unsigned bank, unsigned ma, unsigned op)
     return 0x200000 | pins;
 }
 
-static uint32_t random_pins(enum kind k, unsigned bank, uint32_t period)
+static uint32_t random_pins(enum kind k, unsigned bank, uint64_t period)
 {
     static const uint8_t listed[] = {1, 2, 2, 2, 2, 3, 11, 16, 17};
     static const uint8_t programming[] = {1, 1, 1, 1, 2, 2, 2, 3, 11, 16, 17};
@@ -196,7 +279,7 @@ static unsigned some_mr4(void)
     return with_code(code);
 }
 
-static uint32_t stray_pins(uint32_t period)
+static uint32_t stray_pins(uint64_t period)
 {
     enum kind k = (enum kind)below(RESERVED);
     unsigned bank = (unsigned)below(8), p = (unsigned)below(2);

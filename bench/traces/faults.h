@@ -33,15 +33,16 @@ static void insert_random(size_t at, size_t n)
     }
 }
 
-#define CARD 135
+/* Bytes of the fields of tags 1 to 18, and of a timing. */
+static size_t head_bytes(void) { return trace.fine ? 139 : 135; }
 #define TIMING 8
 
 /* Something wrong about tags 19 to 22, in a file that is well-formed but for such things. */
 static void spoil_tags(void)
 {
     uint8_t field[TIMING];
-    size_t k = below(4), n = (one_in(2) ? 1 : between(1, 4 - k)) * TIMING, at = CARD + k * TIMING;
-    if (bytes.n < CARD + 4 * TIMING)
+    size_t k = below(4), n = (one_in(2) ? 1 : between(1, 4 - k)) * TIMING, at = head_bytes() + k * TIMING;
+    if (bytes.n < head_bytes() + 4 * TIMING)
         return;
     memcpy(field, bytes.p + at, TIMING);
     switch (below(7)) {
@@ -49,7 +50,7 @@ static void spoil_tags(void)
         drop_bytes(at, n);
         break;
     case 1:
-        drop_bytes(CARD, 4 * TIMING);
+        drop_bytes(head_bytes(), 4 * TIMING);
         break;
     case 2:
         insert_bytes(at + (one_in(2) ? 0 : TIMING), field, TIMING);
@@ -105,7 +106,7 @@ static void insert_optional(size_t own, const uint8_t *p, size_t n)
 }
 
 /* Where tags 23, 25 and 26 are or would be. */
-static size_t mode_place(void) { return CARD + (trace.card.sleeps ? 4 * TIMING : 0); }
+static size_t mode_place(void) { return head_bytes() + (trace.card.sleeps ? 4 * TIMING : 0); }
 static size_t gap_place(void) { return mode_place() + (trace.card.presets ? 4 : 0); }
 static size_t heat_place(void) { return gap_place() + (trace.card.two ? 4 : 0); }
 
@@ -175,7 +176,7 @@ static void insert_again(void)
 {
     uint8_t again[16];
     size_t from = some_field(), n = bytes.n - from;
-    if (n >= 3 && bytes.p[from + 1] == 0 && bytes.p[from + 2] <= 7)
+    if (n >= 3 && bytes.p[from + 1] == 0 && bytes.p[from + 2] <= 8)
         n = n < 3u + bytes.p[from + 2] ? n : 3u + bytes.p[from + 2];
     if (n > sizeof again)
         return;

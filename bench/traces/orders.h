@@ -18,6 +18,8 @@ static size_t make_field(uint8_t tag, uint8_t *p)
     static const uint8_t lengths[] = {[1] = 4,  [2] = 1,  [3] = 2,  [4] = 4,  [23] = 1,
                                       [25] = 1, [26] = 4, [32] = 7, [33] = 4, [34] = 5};
     size_t n = tag >= 5 && tag <= 22 ? 5 : tag < sizeof lengths ? lengths[tag] : 0;
+    if (tag == 1 && trace.fine)
+        n = 8;
     if (!n)
         n = (size_t)below(8);
     memset(p, 0, 3 + n);
@@ -71,7 +73,7 @@ static void put_tag(void)
 /* A field of the card changes places with its neighbour, stands elsewhere, or twice, or nowhere. */
 static void move_field(void)
 {
-    uint8_t field[TIMING];
+    uint8_t field[11];
     size_t card = card_fields(), i = one_in(2) ? below(card) : between(17, card - 1);
     size_t at = place(i), n = place(i + 1) - at;
     memcpy(field, bytes.p + at, n);

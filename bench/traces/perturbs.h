@@ -37,7 +37,7 @@ static void perturb_pins(size_t i)
         e->pins ^= 1u << between(20, 23);
         break;
     case 3:
-        e->pins = stray_pins(938 + (uint32_t)below(3000));
+        e->pins = stray_pins(FS * (938 + (uint64_t)below(3000)));
         break;
     default:
         e->pins = (uint32_t)below(1 << 24);
@@ -54,7 +54,7 @@ static void perturb_end(void)
 
 static void insert_stray(size_t i)
 {
-    uint32_t period = trace.card.period < 938 ? 938 : trace.card.period;
+    uint64_t period = trace.card.period < 938 * FS ? 938 * FS : trace.card.period;
     uint32_t stamp = trace.e[i].stamp + (one_in(2) ? UINT32_MAX : 1);
     insert(i, (struct entry){stamp, stray_pins(period)});
 }

@@ -27,6 +27,7 @@ struct entry {
 
 static struct {
     struct card card;
+    bool fine;     /* the period has 8 bytes */
     bool warms;    /* fields of tag 34 come */
     bool programs; /* writes of MR1 come that may be listed */
     struct entry *e;
@@ -104,7 +105,7 @@ static void serialize(void)
 {
     const struct card *c = &trace.card;
     bytes.n = 0;
-    put_field(1, 4, c->period);
+    put_field(1, trace.fine ? 8 : 4, trace.fine ? c->period : c->period / FS);
     put_field(2, 1, c->mr2);
     put_field(3, 2, c->r);
     put_field(4, 4, c->refi);

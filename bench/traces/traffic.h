@@ -177,6 +177,7 @@ static struct record part[2];
 static void begin_all(struct form form)
 {
     trace.n = 0;
+    trace.fine = form.fine;
     trace.warms = form.warms;
     trace.programs = form.programs;
     begin(&part[0], &trace.card);
@@ -245,7 +246,7 @@ static void far(struct form form)
     tidy = true;
     trace.card = bench_card;
     add_form(&trace.card, form);
-    trace.card.period = 938;
+    trace.card.period = 938 * FS + (form.fine ? (uint64_t)below(FS) : 0);
     trace.card.mr2 = 0x1E;
     trace.card.refi = 20000000;
     begin_all(form);
@@ -266,7 +267,7 @@ static void far(struct form form)
     unsigned p = some_part(part);
     lay(part, p, one_in(2) ? REFPB : REFAB, 0, stop);
     lay_legal(part, trace.n + 400);
-    insert(trace.n, (struct entry){UINT32_MAX, stray_pins(938)});
+    insert(trace.n, (struct entry){UINT32_MAX, stray_pins(938 * FS)});
     trace.last = UINT32_MAX;
     trace.fail = first_failing(part, part->card.two)->fail;
 }
@@ -283,7 +284,7 @@ static void far_asleep(bool bench, struct form form, size_t count)
     if (part->level == SELF_REFRESH && rise > part->next && lay_pins(part, 0, NOP, 0, rise, rise_pins()))
         lay_legal(part, trace.n + count);
     if (one_in(2) && part->next <= UINT32_MAX)
-        insert(trace.n, (struct entry){UINT32_MAX, stray_pins(938)});
+        insert(trace.n, (struct entry){UINT32_MAX, stray_pins(938 * FS)});
     choose_end(part);
 }
 

@@ -1,6 +1,6 @@
 """Writes the files of data/, the arguments, and stdout: what the program must print of them. Run it in this folder.
 
-Each file stands for a point of document 01, or of requests One, Two, Three, Nine and Eleven of document 02. Where a refusal is expected it is written here by hand, from
+Each file stands for a point of document 01, or of requests One, Two, Three, Four, Nine and Eleven of document 02. Where a refusal is expected it is written here by hand, from
 the document; paper.py works out the rest, and must come to the same refusal. The last files are those of examples/, whose README has their verdicts."""
 import os
 import re
@@ -29,7 +29,8 @@ SLEEPS = {"tCKE": (7500, 3), "tXP": (10000, 3), "tCKESR": (15000, 3), "tXSR": (1
 
 def card_fields(**changed):
     c = {**BENCH, **changed}
-    out = [field(1, num(c["period"], 4)), field(2, num(c["mr2"], 1)), field(3, num(c["R"], 2)), field(4, num(c["tREFI"], 4))]
+    period = num(c["fs"], 8) if "fs" in c else num(c["period"], 4)
+    out = [field(1, period), field(2, num(c["mr2"], 1)), field(3, num(c["R"], 2)), field(4, num(c["tREFI"], 4))]
     out += [field(5 + k, num(c[name][0], 4) + num(c[name][1], 1)) for k, name in enumerate(paper.TIMINGS + paper.SLEEPS) if name in c]
     out += [field(tag, num(c[name], size)) for tag, name, size in ((23, "mr1", 1), (25, "gap", 1), (26, "hot", 4)) if name in c]
     return out
@@ -1133,6 +1134,224 @@ def tag_order_cases():
         case("12-%d-behind-the-end" % tag, trace([], 5) + any_field(tag, 40), "refused 12 0 142 0")
 
 
+# 933 MHz: in cycles of 1,071,811 fs 20,364 ps are 19 and 20,365 ps 20. In cycles of 1071 ps both are 20, in those of 1072 ps both are 19.
+FINE = dict(fs=1071811, mr2=0x1C)
+BESIDE = ((20364, 19), (20365, 20))
+NO_DELAYS = {name: (0, 0) for name in paper.TIMINGS + paper.SLEEPS}
+
+
+def fs_length_cases():
+    """Tag 1 with 4 or 8 bytes and with no other number of them; its value stays good, and what is behind it too."""
+    behind = b"".join(card_fields()[1:]) + trace([(0, act(0)), (15, rd(0))], 20, b"")
+    case("fs-4-bytes", field(1, num(1250, 4)) + behind, "accepted 2 0 0")
+    case("fs-8-bytes", field(1, num(1250000, 8)) + behind, "accepted 2 0 0")
+    for size in (0, 1, 2, 3, 5, 6, 7, 9, 10, 12, 16, 255, 256, 260, 264, 1024, 2048, 2052):
+        for unit, value in (("ps", 1250), ("fs", 1250000)):
+            case("3-1-%d-%s" % (size, unit), field(1, num(value, 8).rjust(size, b"\0")[8 - size if size < 8 else 0:]) + behind, "refused 3 0 0 0")
+    # cut where a value is out of range already
+    for k in (1, 2, 3, 4, 7, 10):
+        case("1-cut-8-bytes-%d" % k, field(1, num(2**64 - 1, 8))[:k], "refused 1 0 0 0")
+    case("1-ends-behind-8-bytes", field(1, num(1250000, 8)), "refused 1 0 11 0")
+    for head in ([0, 5], [0, 9], [1, 4], [1, 8], [4, 0], [8, 0], [8, 8], [255, 255]):
+        case("3-1-before-cut-%d-%d" % tuple(head), bytes([1] + head), "refused 3 0 0 0")
+    # 8 bytes are for the period alone
+    whole, more = card_fields(**SLEEPS, mr1=mr1(2), hot=1875), trace([(40, DOWN)], 60, b"")
+    for k, f in enumerate(whole[1:], 1):
+        for unit, first in (("ps", whole[0]), ("fs", field(1, num(1250000, 8)))):
+            before = first + b"".join(whole[1:k])
+            wide = field(f[0], f[3:].rjust(8, b"\0"))
+            case("3-%d-8-bytes-%s" % (f[0], unit), before + wide + b"".join(whole[k + 1:]) + more, "refused 3 0 %d 0" % len(before))
+    for unit, head in (("ps", card()), ("fs", card(fs=1250000))):
+        for f in (field(25, bytes([2])), entry(5, NOP), entry(5, mr4(4)), end(5)):
+            case("3-%d-8-bytes-%s" % (f[0], unit), head + field(f[0], f[3:].rjust(8, b"\0")) + end(20), "refused 3 0 %d 0" % len(head))
+
+
+def fs_range_cases():
+    """From 938,000 to 100,000,000, over all 64 bits; in 4 bytes a thousandth of it."""
+    behind = b"".join(card_fields(mr2=0x1E)[1:]) + end(20)
+    for value in (938000, 938001, 1070999, 1250000, 99999999, 100000000):
+        case("fs-of-%d" % value, field(1, num(value, 8)) + behind, "accepted 0 0 0")
+    for value in (0, 1, 938, 1071, 1250, 100000, 937000, 937999, 100000001, 100001000, 2**31, 2**32 - 1, 2**32 + 938000, 2**32 + 1071000, 2**33 + 1250000, 2**40 + 1250000,
+                  2**48 + 1250000, 2**56 + 1250000, 2**63 - 1, 2**63, 2**63 + 1250000, 2**64 - 1, 1250000 << 8, 1250000 << 16, 1250000 << 32, 1250000 << 40, 2**61 + 1250):
+        case("4-fs-of-%d" % value, field(1, num(value, 8)) + behind, "refused 4 0 0 0")
+    # in 4 bytes these are fs that were taken for ps, and ps whose thousandfold passes 32 bits
+    for value in (938000, 1071811, 1250000, 100000000, 2**32 - 1, 4296218, 8591185):
+        case("4-ps-of-%d" % value, field(1, num(value, 4)) + behind, "refused 4 0 0 0")
+
+
+def fs_latency_cases():
+    """The rows of MR2, at the least period and a fs below it: on the card, and written under a card that starts with 1110."""
+    for code, (ps, *_) in paper.ROWS.items():
+        if ps == 938:
+            continue
+        for name, fs in (("least", 1000 * ps), ("above", 1000 * ps + 1)):
+            good("fs-mr2-%d-%s" % (code, name), [], 20, "accepted 0 0 0", fs=fs, mr2=0x50 | code, tREFI=20000000)
+            good("fs-mrw-%d-%s" % (code, name), [(0, mrw(2, 0x50 | code))], 20, "accepted 1 0 0", fs=fs, mr2=0x0E, tREFI=20000000)
+        case("4-fs-mr2-%d" % code, card(fs=1000 * ps - 1, mr2=0x50 | code, tREFI=20000000) + end(20), "refused 4 0 11 0")
+        bad("9-fs-mrw-%d" % code, [(0, mrw(2, code))], 20, 9, fs=1000 * ps - 1, mr2=0x0E, tREFI=20000000)
+    case("4-fs-mr2-half", card(fs=1070500, mr2=0x1C) + end(20), "refused 4 0 11 0")
+    bad("9-fs-mrw-half", [(0, mrw(2, 0x1C))], 20, 9, fs=1070500, mr2=0x0E)
+    for p in (0, 1):
+        bad("9-fs-mrw-part-%d" % p, [(0, to(p, mrw(2, 0x0A)))], 20, 9, fs=1249999, mr2=0x0E, gap=2)
+
+
+def fs_refi_cases():
+    """tREFI in ps is not below the period in fs."""
+    for fs, least in ((938000, 938), (1000000, 1000), (1000001, 1001), (1000499, 1001), (1000500, 1001), (1000501, 1001), (1000999, 1001), (1071811, 1072),
+                      (99999001, 100000), (100000000, 100000)):
+        case("4-fs-trefi-%d" % fs, card(fs=fs, mr2=0x0E, tREFI=least - 1) + end(0), "refused 4 0 20 0")
+        # a refresh falls due at every cycle
+        good("fs-trefi-%d" % fs, [], 8, "accepted 0 0 8", fs=fs, mr2=0x0E, tREFI=least)
+        bad("fs-trefi-%d-late" % fs, [], 9, 11, 19, 9, place=0, fs=fs, mr2=0x0E, tREFI=least)
+    case("4-fs-trefi-high", card(fs=1071811, mr2=0x1C, tREFI=20000001) + end(0), "refused 4 0 20 0")
+    good("fs-trefi-high", [], 0, "accepted 0 0 0", fs=1071811, mr2=0x1C, tREFI=20000000)
+    # whose thousandfold is 704 above 32 bits
+    good("fs-trefi-4294968", [], 9 * 4007 - 1, "accepted 0 0 8", fs=1071811, mr2=0x1C, tREFI=4294968)
+    bad("fs-trefi-4294968-late", [], 9 * 4007, 11, 19, 9 * 4007, place=0, fs=1071811, mr2=0x1C, tREFI=4294968)
+
+
+def fs_delay_cases():
+    """Every timing on both sides of 19 cycles, alone: RL is 14 and WL 8."""
+    def beside(name, rule, timing, before, pins, wait, **changed):
+        """The later entry may come so many cycles more than the timing's behind the last of those before."""
+        for ps, n in BESIDE:
+            cycle = before[-1][0] + wait + n
+            bound("fs-%s-%d" % (name, n), before, cycle - 1, pins, rule, cycle, **{**FINE, **NO_DELAYS, timing: (ps, 0), **changed})
+
+    opened, read, write = [(0, act(0))], [(0, act(0)), (9, rd(0, 1))], [(0, act(0)), (9, wr(0, 1))]
+    beside("rule1", 1, "tMRW", [(0, mrw(1, 3))], act(0), 0)
+    beside("rule2", 2, "tMRR", [(0, mrr(0))], pre(0), 0)
+    beside("rule3", 3, "tRFCab", [(0, REFAB)], act(0), 0)
+    beside("rule4", 4, "tRFCpb", [(0, REFPB)], REFPB, 0)
+    beside("rule5", 5, "tRPpb", [(0, pre(0))], act(0), 0)
+    beside("rule6", 6, "tRPab", [(0, PREA)], act(0), 0)
+    beside("rule7", 7, "tRCD", opened, rd(0), 0)
+    beside("rule8", 8, "tRAS", opened, pre(0), 0)
+    beside("rule9-tras", 9, "tRAS", [(0, act(0)), (1, rd(0, 1))], act(0), -1)
+    beside("rule10", 10, "tRRD", opened, act(1), 0)
+    beside("rule11", 11, "tFAW", [(k, act(k)) for k in range(4)], act(4), -3)
+    beside("rule13", 13, "tDQSCK", [(0, act(0)), (9, rd(0))], wr(0), 14 + 5 - 8)
+    beside("rule14", 14, "tWTR", [(0, act(0)), (9, wr(0))], rd(0), 8 + 5)
+    beside("rule15", 15, "tRTP", [(0, act(0)), (9, rd(0))], pre(0), 0)
+    beside("rule16", 16, "tRTP", read, act(0), 0)
+    beside("rule16-trp", 16, "tRPpb", read, act(0), 4)
+    beside("rule17", 17, "tWR", write, pre(0), 8 + 5)
+    beside("rule18", 18, "tWR", write, act(0), 8 + 5)
+    beside("rule18-trp", 18, "tRPpb", write, act(0), 8 + 5 + 10, mr1=mr1(0))
+    beside("rule21", 21, "tCKE", [(0, DOWN)], WAKE, 0)
+    beside("rule22", 22, "tXP", [(0, DOWN), (9, WAKE)], act(0), 0)
+    beside("rule23", 23, "tCKESR", [(0, SELF)], WAKE, 0)
+    beside("rule24", 24, "tXSR", [(0, SELF), (9, WAKE)], act(0), 0)
+    # NO_DELAYS has tags 19 to 22, which two parts may not
+    awake = {name: (0, 0) for name in paper.TIMINGS}
+    both = [(0, to(0, act(0))), (1, to(1, act(0)))]
+    for ps, n in BESIDE:
+        g = {**FINE, **awake, "gap": 2}
+        bound("fs-rule26-%d" % n, both + [(9, to(0, rd(0)))], 21 + n, to(1, wr(0)), 26, 22 + n, **{**g, "tDQSCK": (ps, 0)})
+        bound("fs-rule27-%d" % n, both + [(9, to(0, wr(0)))], 23 + n, to(1, rd(0)), 27, 24 + n, **{**g, "tWTR": (ps, 0)})
+    # just so many cycles, and by a fs more or less
+    for fs, ps, n in ((1071421, 20357, 20), (1071422, 20357, 19), (1071500, 21430, 20), (1071500, 21431, 21), (1071499, 21430, 21), (1071501, 21430, 20)):
+        bound("fs-just-%d-%d" % (fs, ps), opened, n - 1, rd(0), 7, n, fs=fs, mr2=0x1C, tRCD=(ps, 0))
+    # a floor that is greater, as great and less
+    for floor, n in ((18, 19), (19, 19), (20, 20), (255, 255)):
+        bound("fs-floor-%d" % floor, opened, n - 1, rd(0), 7, n, **{**FINE, "tRCD": (20364, floor)})
+
+
+def fs_trc_cases():
+    """tRC is rounded once: 10,182 ps are 9.5 cycles, twice that 18.9997, and a ps more 19.0006."""
+    opened = [(0, act(0)), (1, rd(0, 1))]
+    for name, tras, trppb, cycle in (("19", 10182, 10182, 19), ("20", 10183, 10182, 20), ("20-other", 10182, 10183, 20), ("most", 1000000, 1000000, 1867)):
+        bound("fs-trc-" + name, opened, cycle - 1, act(0), 9, cycle, **{**FINE, **NO_DELAYS, "tRAS": (tras, 0), "tRPpb": (trppb, 0)})
+    bound("fs-trc-floors", opened, 20, act(0), 9, 21, **{**FINE, **NO_DELAYS, "tRAS": (10182, 11), "tRPpb": (10182, 10)})
+
+
+def fs_hot_cases():
+    """Code 110 with tag 26: 10,000 ps and 10,364 more are 19 cycles, a ps more 20. Alone 10,000 ps are 10, 10,364 ps 10 and 10,365 ps 10."""
+    opened, read, write = [(0, act(0))], [(0, act(0)), (9, rd(0, 1))], [(0, act(0)), (9, wr(0, 1))]
+    for name, rule, timing, before, pins, wait in (
+            ("rule5", 5, "tRPpb", [(0, pre(0))], act(0), 0), ("rule6", 6, "tRPab", [(0, PREA)], act(0), 0), ("rule7", 7, "tRCD", opened, rd(0), 0),
+            ("rule8", 8, "tRAS", opened, pre(0), 0), ("rule10", 10, "tRRD", opened, act(1), 0), ("rule16", 16, "tRPpb", read, act(0), 4),
+            ("rule18", 18, "tRPpb", write, act(0), 8 + 5)):
+        for hot, n in ((10364, 19), (10365, 20)):
+            last, changed = before[-1][0], {**FINE, **NO_DELAYS, timing: (10000, 0), "hot": hot}
+            bound("fs-hot-%s-%d" % (name, n), before + [(last + 1, mr4(6))], last + wait + n - 1, pins, rule, last + wait + n, **changed)
+        bound("fs-quarter-" + name, before + [(last + 1, mr4(5))], last + wait + 9, pins, rule, last + wait + 10, **changed)
+    # twice 5,182 ps more: 20,364 and 20,365 ps in all
+    for tras, n in ((5000, 19), (5001, 20)):
+        bound("fs-hot-trc-%d" % n, [(0, act(0)), (1, mr4(6)), (5, rd(0, 1))], n - 1, act(0), 9, n, **{**FINE, **NO_DELAYS, "tRAS": (tras, 0), "tRPpb": (5000, 0), "hot": 5182})
+
+
+def fs_interval_cases():
+    """I by each code. 1,071,811 ps are just 1000 cycles, and a ps less does not make them full; 3,900,000 ps are 3638.7."""
+    rows = ((1071811, (4000, 2000, 1000, 500, 250, 250)), (1071810, (3999, 1999, 999, 499, 249, 249)), (3900000, (14554, 7277, 3638, 1819, 909, 909)))
+    for trefi, intervals in rows:
+        plain, f = intervals[2], {**FINE, "tREFI": trefi}
+        good("fs-idle-%d" % trefi, [], 9 * plain - 1, "accepted 0 0 8", **f)
+        bad("fs-idle-%d-late" % trefi, [], 9 * plain, 11, 19, 9 * plain, place=0, **f)
+        for code, i in enumerate(intervals, 1):
+            ninth = min(plain, i) + 8 * i
+            good("fs-heat-%d-%d" % (trefi, code), [(0, mr4(code))], ninth - 1, "accepted 0 0 8", **f)
+            bad("fs-heat-%d-%d-late" % (trefi, code), [(0, mr4(code))], ninth, 11, 19, ninth, place=1, **f)
+        # tRFCab of 130,000 ps is 122 cycles
+        eight = [(122 * k, REFAB) for k in range(8)]
+        good("fs-gap-%d" % trefi, eight, 854 + 9 * plain, **f)
+        bad("fs-gap-%d-late" % trefi, eight, 855 + 9 * plain, 11, 20, 855 + 9 * plain, place=8, **f)
+        good("fs-slept-%d" % trefi, [(100, SELF), (10100, WAKE)], 10000 + 9 * plain - 1, "accepted 0 0 8", **f, **SLEEPS)
+        bad("fs-slept-%d-late" % trefi, [(100, SELF), (10100, WAKE)], 10000 + 9 * plain, 11, 19, 10000 + 9 * plain, place=2, **f, **SLEEPS)
+        good("fs-parts-%d" % trefi, [], 9 * plain - 1, "accepted 0 0 8 8", gap=2, **f)
+    most = dict(fs=938000, mr2=0x0E, tREFI=20000000)
+    good("fs-heat-most", [(0, mr4(1))], 21321 + 8 * 85287 - 1, "accepted 0 0 8", **most)
+    bad("fs-heat-most-late", [(0, mr4(1))], 21321 + 8 * 85287, 11, 19, 21321 + 8 * 85287, place=1, **most)
+    good("fs-heat-least", [(0, mr4(5))], 8, "accepted 0 0 8", fs=1000500, mr2=0x0E, tREFI=1001)
+    good("fs-heat-least-4", [(0, mr4(1))], 1 + 7 * 4, "accepted 0 0 8", fs=1000500, mr2=0x0E, tREFI=1001)
+    bad("fs-heat-least-4-late", [(0, mr4(1))], 1 + 8 * 4, 11, 19, 1 + 8 * 4, place=1, fs=1000500, mr2=0x0E, tREFI=1001)
+
+
+def fs_strict_cases():
+    """What a card of 1071 ps refuses and one of 1,071,811 or 1,071,429 fs takes: 15,000 ps are 14.006 cycles, 13.995 and 13.99999. And the other way about: a
+    refresh that comes in time by 3641 cycles and not by 3638."""
+    fourteen = dict(mr2=0x1C, tRCD=(15000, 3))
+    for fs in (1071811, 1071429):
+        good("fs-%d-taken" % fs, [(0, act(0)), (14, rd(0))], 40, "accepted 2 0 0", fs=fs, **fourteen)
+        bad("fs-%d-early" % fs, [(0, act(0)), (13, rd(0))], 40, 10, 7, 14, fs=fs, **fourteen)
+    for name, head in (("ps", dict(period=1071)), ("fs", dict(fs=1071000)), ("a-third", dict(fs=1071428))):
+        bad("fs-not-%s" % name, [(0, act(0)), (14, rd(0))], 40, 10, 7, 15, **head, **fourteen)
+    good("fs-ps-refreshed", [(9 * 3641 - 1, REFAB)], 9 * 3641, period=1071, mr2=0x1C)
+    bad("fs-refreshed-late", [(9 * 3641 - 1, REFAB)], 9 * 3641, 11, 19, 9 * 3638, **FINE)
+
+
+def fs_whole_cases():
+    """The bench card's period in 8 bytes: every verdict is that of its 4, four bytes further on."""
+    def refused(number, rule, offset, cycle, card_bytes):
+        return "refused %d %d %d %d" % (number, rule, card_bytes + offset, cycle)
+
+    eight = [(104 * k, REFAB) for k in range(8)]
+    for name, entries, e, more, refusal in (
+            ("rcd", [(0, act(0)), (14, rd(0))], 40, {}, (10, 7, 10, 15)), ("rcd-good", [(0, act(0)), (15, rd(0))], 20, {}, None),
+            ("faw", [(8 * b, act(b)) for b in range(5)], 60, {}, (10, 11, 40, 40)), ("rc", [(0, act(0)), (15, rd(0, 1)), (47, act(0))], 60, {}, (10, 9, 20, 48)),
+            ("wra", [(0, act(0)), (15, wr(0, 1)), (52, act(0))], 60, {}, (10, 18, 20, 53)), ("idle", [], 28079, {}, None),
+            ("idle-late", [], 28080, {}, (11, 19, 0, 28080)), ("eight", eight, 28808, {}, None), ("eight-late", eight, 28809, {}, (11, 20, 80, 28809)),
+            ("mr2-19", [(0, mrw(2, 0x19))], 20, {}, (9, 0, 0, 0)), ("mr2-1c", [(0, mrw(2, 0x1C))], 20, {}, None),
+            ("hot", [(0, act(0)), (1, mr4(6)), (15, rd(0))], 60, dict(hot=1875), (10, 7, 25, 16)),
+            ("wake", [(10, DOWN), (15, WAKE)], 60, SLEEPS, (10, 21, 42, 16)), ("end", [(7, NOP)], 6, {}, (5, 0, 10, 0))):
+        good("fs-whole-" + name, entries, e, refusal and refused(*refusal, 139), fs=1250000, **more)
+        four = paper.judge(trace(entries, e, card(**more)))
+        eight_bytes = paper.judge(trace(entries, e, card(fs=1250000, **more)))
+        assert four[:-1] == eight_bytes[:-1] and four[-1] == (refused(*refusal, 135) if refusal else eight_bytes[-1]), name
+
+
+def fs_tag_cases():
+    """Which tag may come is not moved by the length of the first."""
+    first, rest = field(1, num(1071811, 8)), b"".join(card_fields(mr2=0x1C)[1:])
+    for name, data, verdict in (("again", first, "18 2"), ("again-4", field(1, num(1071, 4)), "18 2"), ("3", field(3, num(1, 2)), "19 2"), ("24", field(24, b""), "17 2"),
+                                ("end", end(5), "19 2")):
+        case("fs-tag-" + name, first + data + rest, "refused %s 11 0" % verdict)
+    case("fs-tag-behind-18", first + rest + first + end(5), "refused 18 33 139 0")
+    case("fs-tag-behind-18-early", first + rest + field(20, bytes(5)) + end(5), "refused 19 19 139 0")
+    case("fs-tag-behind-entry", first + rest + entry(5, NOP) + first + end(5), "refused 18 33 149 0")
+    case("fs-12", first + rest + end(5) + first, "refused 12 0 146 0")
+
+
 def example_cases():
     """The traces of examples/, made of their texts, with the verdicts of the table in its README; examples/NAME.trace is a link to the file here."""
     folder = "../../examples/"
@@ -1148,12 +1367,14 @@ def example_cases():
 SMALL = {"cuts": trace([(0, act(0)), (15, rd(0))], 20), "cuts-asleep": trace([(0, DOWN), (15, WAKE), (23, act(0))], 40, card(**SLEEPS)),
          "cuts-parts": trace([(0, to(0, act(0))), (1, to(1, act(0))), (16, to(1, rd(0)))], 40, card(gap=2)),
          "cuts-heat": trace([(0, act(0)), (5, mr4(6)), (16, rd(0)), (17, mr4(0x83))], 40, card(hot=1875)),
+         "cuts-fine": trace([(0, act(0)), (5, mr4(6)), (19, rd(0)), (40, mrr(4))], 60, card(hot=1875, **FINE)),
          "cuts-nwr": trace([(0, act(0)), (20, wr(0, 1)), (62, mrw(1, mr1(0)))], 80, card(mr1=mr1(6), hot=1875))}
 
 for build in (bench_cases, rule_cases, mr2_cases, refusal_cases, order_cases, account_cases, form_cases, move_cases, sleep_rule_cases, sleep_account_cases,
               sleep_tag_cases, parts_pins_cases, parts_own_cases, parts_bus_cases, parts_account_cases, parts_tag_cases, heat_interval_cases, heat_due_cases,
               heat_gap_cases, heat_form_cases, heat_raise_cases, heat_sleep_cases, heat_parts_cases, heat_tag_cases, nwr_pair_cases, nwr_write_cases,
-              nwr_later_cases, nwr_sleep_cases, nwr_hot_cases, nwr_parts_cases, nwr_tag_cases, wrong_tag_cases, tag_order_cases, example_cases):
+              nwr_later_cases, nwr_sleep_cases, nwr_hot_cases, nwr_parts_cases, nwr_tag_cases, wrong_tag_cases, tag_order_cases, fs_length_cases, fs_range_cases,
+              fs_latency_cases, fs_refi_cases, fs_delay_cases, fs_trc_cases, fs_hot_cases, fs_interval_cases, fs_strict_cases, fs_whole_cases, fs_tag_cases, example_cases):
     build()
 
 shutil.rmtree("data", ignore_errors=True)

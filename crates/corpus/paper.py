@@ -1,9 +1,9 @@
-"""Document 01 with requests One, Two, Three, Nine and Eleven of document 02 in Python, over the list of entries and cycle by cycle: slow and plain, written from the
+"""Document 01 with requests One, Two, Three, Four, Nine and Eleven of document 02 in Python, over the list of entries and cycle by cycle: slow and plain, written from the
 documents alone. It knows nothing of the Rattle code."""
 
 TIMINGS = ["tRCD", "tRPpb", "tRPab", "tRAS", "tRRD", "tFAW", "tRTP", "tWR", "tWTR", "tDQSCK", "tRFCab", "tRFCpb", "tMRR", "tMRW"]
 SLEEPS = ["tCKE", "tXP", "tCKESR", "tXSR"]
-SIZES = {1: 4, 2: 1, 3: 2, 4: 4, **{5 + k: 5 for k in range(18)}, 23: 1, 25: 1, 26: 4, 32: 7, 33: 4, 34: 5}
+SIZES = {1: (4, 8), 2: (1,), 3: (2,), 4: (4,), **{5 + k: (5,) for k in range(18)}, 23: (1,), 25: (1,), 26: (4,), 32: (7,), 33: (4,), 34: (5,)}
 #       code: (least ps, RL, WL A, WL B)
 ROWS = {1: (6000, 3, 1, 1), 4: (2500, 6, 3, 3), 6: (1875, 8, 4, 4), 7: (1670, 9, 5, 5), 8: (1500, 10, 6, 8), 9: (1360, 11, 6, 9),
         10: (1250, 12, 6, 9), 12: (1071, 14, 8, 11), 14: (938, 16, 8, 13)}
@@ -20,8 +20,12 @@ def mr1_good(v):
     return v & 7 == 3
 
 
+def fs(ps):
+    return 1000 * ps
+
+
 def mr2_good(period, v):
-    return v & 0x80 == 0 and v & 0x20 == 0 and v & 15 in ROWS and ROWS[v & 15][0] <= period
+    return v & 0x80 == 0 and v & 0x20 == 0 and v & 15 in ROWS and fs(ROWS[v & 15][0]) <= period
 
 
 def rl(v):
@@ -42,7 +46,7 @@ def up(d, p):
 
 
 class Card:
-    """Fields by tag, as they come; a timing is (duration, floor), MR1 None without tag 23, the gap without 25."""
+    """Fields by tag, as they come; the period is in fs, a timing (duration in ps, floor), MR1 None without tag 23, the gap without 25."""
 
     def __init__(self):
         self.timing, self.sleeps, self.mr1, self.gap, self.more = {}, False, None, None, 0
@@ -50,20 +54,20 @@ class Card:
     def delays(self, code):
         """In cycles, by the code in force."""
         timing = {k: (d + (self.more if code == HOT and k in RAISED else 0), f) for k, (d, f) in self.timing.items()}
-        t = {k: max(f, up(d, self.period)) for k, (d, f) in timing.items()}
+        t = {k: max(f, up(fs(d), self.period)) for k, (d, f) in timing.items()}
         (a, f), (b, g) = timing["tRAS"], timing["tRPpb"]
-        t["tRC"] = max(f + g, up(a + b, self.period))
+        t["tRC"] = max(f + g, up(fs(a + b), self.period))
         return t
 
     def interval(self, code):
-        return max(1, self.trefi * QUARTERS[code] // (4 * self.period))
+        return max(1, fs(self.trefi) * QUARTERS[code] // (4 * self.period))
 
     def take(self, tag, value):
         """Whether the value is in range; if so it is kept."""
         x = int.from_bytes(value, "big")
         if tag == 1:
-            self.period = x
-            return 938 <= x <= 100000
+            self.period = x if len(value) == 8 else fs(x)
+            return fs(938) <= self.period <= fs(100000)
         if tag == 2:
             self.mr2 = x
             return mr2_good(self.period, x)
@@ -71,7 +75,7 @@ class Card:
             return 1 <= x <= 16384
         if tag == 4:
             self.trefi = x
-            return self.period <= x <= 20000000
+            return self.period <= fs(x) and x <= 20000000
         if tag == 23:
             self.mr1 = x
             return mr1_good(x)
@@ -509,6 +513,11 @@ def wrong_tag(tags, got):
     return 19, expected
 
 
+def size_at(data, at):
+    """The length that the field at this place has, by its own word."""
+    return data[at + 1] * 256 + data[at + 2]
+
+
 def misformed(data, at, tags):
     """What is wrong about the tag, length and room of the field at this place, behind those that were read: (number, rule), or None."""
     if at == len(data):
@@ -518,8 +527,8 @@ def misformed(data, at, tags):
         return wrong_tag(tags, got)
     if len(data) < at + 3:
         return 1, 0
-    size = data[at + 1] * 256 + data[at + 2]
-    if size != SIZES[got]:
+    size = size_at(data, at)
+    if size not in SIZES[got]:
         return 3, 0
     return (1, 0) if len(data) < at + 3 + size else None
 
@@ -535,7 +544,7 @@ def judge(data):
         bad = misformed(data, at, tags)
         if bad:
             return refused(*bad)
-        got, behind = data[at], at + 3 + SIZES[data[at]]
+        got, behind = data[at], at + 3 + size_at(data, at)
         value = data[at + 3:behind]
         if got < 32:
             if not card.take(got, value):

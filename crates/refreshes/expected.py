@@ -1,5 +1,5 @@
 #!/usr/bin/env python3
-# What refreshes is to write, from document 01's account and requests One and Eleven of document 02, cycle by cycle wherever something can happen:
+# What refreshes is to write, from document 01's account and requests One, Four and Eleven of document 02, cycle by cycle wherever something can happen:
 #   python3 crates/refreshes/expected.py > crates/refreshes/stdout
 # A line: the refusal's number, rule and cycle, then the ledger: at, owed + 8, since, skipped, and the level, from 0 for awake to 3 for deep power-down.
 # Of a pace: its next due and MR4. Of a deadline: the cycle.
@@ -8,8 +8,8 @@ from collections import namedtuple
 LAST = 2**32 - 1
 AWAKE, POWER_DOWN, SELF_REFRESH, DEEP = range(4)
 
-# what the account asks of a card
-Card = namedtuple("Card", "period trefi good", defaults=(1250, 3900000, True))
+# what the account asks of a card: the period in fs, tREFI in ps
+Card = namedtuple("Card", "period trefi good", defaults=(1250000, 3900000, True))
 BENCH = Card()
 
 # `since` is a number among the counted cycles
@@ -23,7 +23,7 @@ QUARTERS = {1: 16, 2: 8, 3: 4, 4: 2, 5: 1, 6: 1}
 
 
 def interval(card, mr4):
-    return max(1, card.trefi * QUARTERS.get(mr4 % 8, 4) // (4 * card.period))
+    return max(1, 1000 * card.trefi * QUARTERS.get(mr4 % 8, 4) // (4 * card.period))
 
 
 def first_pace(card):
@@ -277,7 +277,7 @@ print(deadline(Ledger(LAST, 8, LAST), Pace(2**64 - 1, 1)))
 print(deadline(Ledger(LAST, -8, LAST), Pace(0, 1)))
 
 # an interval of one cycle
-slow = Card(100000, 100000)
+slow = Card(100000000, 100000)
 show_pace(first_pace(slow))
 pace = show_pace(respaced(slow, Pace(100, 3), 4, 5))
 show(moved(Ledger(4, 0, 4), 12, pace, slow))
@@ -299,6 +299,32 @@ for i in range(60):
         ledger, pace = senses(ledger, pace, 700 * (i + 1), i // 3 % 8)
     else:
         ledger = show(entered(ledger, 700 * (i + 1), True, pace=pace))
+
+# a period that is no whole number of ps: each code's interval and deadline, and a ninth due at 8181 for 909 cycles
+for trefi in (3900000, 1071811, 1071810):
+    fine = Card(1071811, trefi)
+    show_pace(first_pace(fine))
+    for mr4 in range(1, 7):
+        pace = show_pace(respaced(fine, Pace(2**32, 3), 0, mr4))
+        print(deadline(fresh, pace, fine))
+        for to in (8180, 8181):
+            show(moved(fresh, to, pace, fine))
+
+# a fs about the least and the most, and about tREFI
+for period, trefi, good in ((937999, 3900000, False), (938000, 3900000, True), (100000000, 3900000, True), (100000001, 3900000, False),
+                            (1000500, 1000, False), (1000500, 1001, True), (1001000, 1001, True), (1001001, 1001, False)):
+    edge = Card(period, trefi, good)
+    show(moved(fresh, 1, first_pace(edge), edge))
+    show(entered(fresh, 1, False, pace=first_pace(edge), card=edge))
+
+# 64 bits: refused, and the pace of such a card
+for period in (1250, 2**32 + 1250000, 2**63, 2**63 + 1250000, 2**64 - 1):
+    odd = Card(period, 20000000, False)
+    show(moved(fresh, 1, card=odd))
+    show(entered(fresh, 1, False, card=odd))
+    show_pace(first_pace(odd))
+    show_pace(respaced(odd, Pace(2**64 - 1, 1), LAST, 1))
+    show_pace(respaced(odd, Pace(0, 6), LAST, 2))
 
 # all cycles
 show(moved(fresh, LAST))

@@ -1,5 +1,5 @@
 #!/usr/bin/env python3
-# What singles is to write, from document 01 and requests One, Two, Nine and Eleven of document 02: the rules over the lists of the parts' earlier entries, the
+# What singles is to write, from document 01 and requests One, Two, Four, Nine and Eleven of document 02: the rules over the lists of the parts' earlier entries, the
 # account cycle by cycle; and its table of calls.
 #   python3 crates/singles/expected.py > crates/singles/stdout
 #   python3 crates/singles/expected.py table > crates/singles/src/table.rt
@@ -12,13 +12,14 @@ spec.loader.exec_module(allpins)
 
 TIMINGS = "tRCD tRPpb tRPab tRAS tRRD tFAW tRTP tWR tWTR tDQSCK tRFCab tRFCpb tMRR tMRW tCKE tXP tCKESR tXSR".split()
 LEVELS = ["awake", "power-down", "self-refresh", "deep"]
+# the period in fs, all other times in ps
 BENCH = {
-    "period": 1250, "mr2": 0x1A, "R": 8192, "tREFI": 3900000,
+    "period": 1250000, "mr2": 0x1A, "R": 8192, "tREFI": 3900000,
     "ps": [18000, 18000, 21000, 42000, 10000, 50000, 7500, 15000, 7500, 5500, 130000, 60000, 0, 0, 0, 0, 0, 0],
     "floor": [3, 3, 3, 3, 2, 8, 4, 4, 4, 0, 0, 0, 4, 10, 0, 0, 0, 0],
     "sleeps": 0, "mr1": None, "paired": 0, "gap": 0, "raise": 0,
 }
-# code: least period, RL, WL of set A, of set B
+# code: least period in ps, RL, WL of set A, of set B
 LATENCIES = {
     0b0001: (6000, 3, 1, 1), 0b0100: (2500, 6, 3, 3), 0b0110: (1875, 8, 4, 4), 0b0111: (1670, 9, 5, 5), 0b1000: (1500, 10, 6, 8),
     0b1001: (1360, 11, 6, 9), 0b1010: (1250, 12, 6, 9), 0b1100: (1071, 14, 8, 11), 0b1110: (938, 16, 8, 13),
@@ -39,8 +40,12 @@ def refuse(when, *numbers):
 
 
 # ---- the card
+def fs(ps):
+    return 1000 * ps
+
+
 def writable(period, mr2):
-    return not mr2 >> 7 & 1 and not mr2 >> 5 & 1 and mr2 & 15 in LATENCIES and LATENCIES[mr2 & 15][0] <= period
+    return not mr2 >> 7 & 1 and not mr2 >> 5 & 1 and mr2 & 15 in LATENCIES and fs(LATENCIES[mr2 & 15][0]) <= period
 
 
 def mr1_writable(mr1):
@@ -48,14 +53,14 @@ def mr1_writable(mr1):
 
 
 def card_good(card):
-    return (938 <= card["period"] <= 100000 and writable(card["period"], card["mr2"]) and 1 <= card["R"] <= 16384
+    return (fs(938) <= card["period"] <= fs(100000) and writable(card["period"], card["mr2"]) and 1 <= card["R"] <= 16384
             and (card["mr1"] is None or mr1_writable(card["mr1"]))
-            and card["period"] <= card["tREFI"] <= 20000000 and all(ps <= 1000000 for ps in card["ps"] + [card["raise"]])
+            and card["period"] <= fs(card["tREFI"]) <= fs(20000000) and all(ps <= 1000000 for ps in card["ps"] + [card["raise"]])
             and not (card["sleeps"] and card["paired"]))
 
 
 def rounded_up(ps, period):
-    return -(-ps // period)
+    return -(-fs(ps) // period)
 
 
 # by OP2-0 of MR4: how often the quarter of tREFI is taken; 000 and 111, which no field sets, stand for tREFI itself
@@ -75,7 +80,7 @@ def clocks(card, mr4):
 
 def interval(card, mr4):
     """tREFI times the code's factor, over the period, rounded down; never below one cycle."""
-    return max(1, card["tREFI"] * QUARTERS[mr4 & 7] // (4 * card["period"]))
+    return max(1, fs(card["tREFI"]) * QUARTERS[mr4 & 7] // (4 * card["period"]))
 
 
 class Pace:
@@ -436,7 +441,9 @@ PAIR = ["put paired 1", "put gap 2"]
 HOT = ["put raise 1875"]
 # with a tWR of 13 cycles
 THIRTEEN = ["put tWR 16250"]
-CARDS = {"sleeper": SLEEPER, "pair": PAIR, "hot": HOT, "thirteen": THIRTEEN}
+# of 933 MHz
+FINE = ["put period 1071811", "put starting-mr2 0x1C", "fresh"]
+CARDS = {"sleeper": SLEEPER, "pair": PAIR, "hot": HOT, "thirteen": THIRTEEN, "fine": FINE}
 
 
 def parted(call):
@@ -521,8 +528,9 @@ def rows_of(case, calls, names):
         if words[0] in ("put", "move") and lent != (part or 0):
             lent = part or 0
             rows.append(("PART", lent))
-        if words[:2] == ["put", "next"]:
-            rows += [("NEXT_HIGH", int(words[2]) >> 32), ("NEXT_LOW", int(words[2]) & 0xFFFFFFFF)]
+        if words[0] == "put" and words[1] in ("next", "period"):
+            place, value = words[1].upper(), int(words[2])
+            rows += [(place + "_HIGH", value >> 32), (place + "_LOW", value & 0xFFFFFFFF)]
         else:
             rows.append(words_of(words, part, names))
     return rows

@@ -238,7 +238,7 @@ module _ (z : Once) (s : Share) where
 -- ---- MR2 values
 module _ (card : Card) (s : Share) where
   abbrev period : ℕ
-  period = card .period
+  period = card .period .0
 
   abbrev fits : Found Modes → Bool
   fits f = mr2Good period (f .noted .mr2)

@@ -17,6 +17,7 @@ use crate::Once;
 use crate::Record;
 use crate::Share;
 use card::Card;
+use card::Femtoseconds;
 
 // A stamp that is kept is not above the last entry's.
 fn by(last: Once, seen: bool, at: u32) -> bool
@@ -122,9 +123,9 @@ fn stamps_good(last: Once, x: Share) -> bool
 }
 
 // `now` is the present value: what equals it is not looked up again.
-fn note_good(period: u32, now: u8, seen: bool, mr2: u8) -> bool
-    requires { ⌜ mr2Good period now ≡ true ⌝ }
-    ensures { λ r. ⌜ r ≡ noteGood period seen mr2 ⌝ }
+fn note_good(period: Femtoseconds, now: u8, seen: bool, mr2: u8) -> bool
+    requires { ⌜ mr2Good (period .0) now ≡ true ⌝ }
+    ensures { λ r. ⌜ r ≡ noteGood (period .0) seen mr2 ⌝ }
 {
     if !seen {
         return true;
@@ -135,9 +136,9 @@ fn note_good(period: u32, now: u8, seen: bool, mr2: u8) -> bool
     card::mr2_good(period, mr2)
 }
 
-fn notes_good(period: u32, now: u8, x: NotedEach) -> bool
-    requires { ⌜ mr2Good period now ≡ true ⌝ }
-    ensures { λ r. ⌜ r ≡ notesGood period (x .seen) (x .modes) ⌝ }
+fn notes_good(period: Femtoseconds, now: u8, x: NotedEach) -> bool
+    requires { ⌜ mr2Good (period .0) now ≡ true ⌝ }
+    ensures { λ r. ⌜ r ≡ notesGood (period .0) (x .seen) (x .modes) ⌝ }
 {
     let mut i: usize = 0;
     while i < 8 {

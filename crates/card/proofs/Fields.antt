@@ -11,6 +11,7 @@ use lib.ListN.{length, getD, set, length-set, List·getD-map}
 use lib.Seq.{getD-set-same, getD-set-other}
 use borrow.Author.Tests.{eqb-true}
 use Rattle.rules.specs.Card as paper
+use Rattle.rules.specs.Units.{femto}
 use Rattle.rules.specs.Ranges.{timings, sleepTimings, within}
 use Rattle.rules.specs.Folds.{orElse, firstOf}
 use Rattle.rules.specs.Checks.{refusal, unless}
@@ -19,7 +20,7 @@ use Rattle.rules.proofs.Onward.{onward, at-each}
 use Rattle.rules.proofs.Tests.{eq-cases}
 use Rattle.rules.proofs.Rounding.{within-both}
 use Rattle.card.specs.Values.{timing, timingIn, mr1If, cardOf}
-use Rattle.card.specs.Reading.{good, put, readRefusal, numberOf, ruleOf, unlessRefused, answer, readOf, blankCard}
+use Rattle.card.specs.Reading.{numberFor, good, put, readRefusal, numberOf, ruleOf, unlessRefused, answer, readOf, blankCard}
 use Rattle.card.specs.declared.Card.{Card}
 use Rattle.card.proofs.Lengths.{is-within}
 
@@ -56,13 +57,13 @@ built p m g r x h s d w c = record {
 }
 
 card-built : (card : Card)
-    → cardOf card ≡ built (card .period) (card .mr2) (card .groups) (card .trefi) (card .gap) (card .raise) (card .sleeps) (card .paired) (mr1If (card .programmed) (card .mr1)) (timingIn card)
+    → cardOf card ≡ built (card .period .0) (card .mr2) (card .groups) (card .trefi) (card .gap) (card .raise) (card .sleeps) (card .paired) (mr1If (card .programmed) (card .mr1)) (timingIn card)
 unfolding cardOf built
 card-built card = refl
 
 fields-built : (fs : List form.Field)
     → form.cardOf fs
-    ≡ built (form.numberAt 1 fs) (form.numberAt 2 fs) (form.numberAt 3 fs) (form.numberAt 4 fs) (form.numberAt 25 fs) (form.numberAt 26 fs) (form.has 19 fs) (form.has 25 fs) (form.numberIf 23 fs)
+    ≡ built (form.periodAt fs) (form.numberAt 2 fs) (form.numberAt 3 fs) (form.numberAt 4 fs) (form.numberAt 25 fs) (form.numberAt 26 fs) (form.has 19 fs) (form.has 25 fs) (form.numberIf 23 fs)
     (λ k. form.timingAt (k + 5) fs)
 unfolding form.cardOf built
 fields-built fs = refl
@@ -123,16 +124,20 @@ pub record Holds (card : Card) (fs : List form.Field) : Type 0 where
 held-timing : (card : Card) (fs : List form.Field) → Holds card fs → (k : ℕ) → k < 18 → timingIn card k ≡ form.timingAt (k + 5) fs
 unfolding cardOf form.cardOf built
 held-timing card fs h k lt =
-    sym (at-place (card .period) (card .mr2) (card .groups) (card .trefi) (card .gap) (card .raise) (card .sleeps) (card .paired) (mr1If (card .programmed) (card .mr1)) (timingIn card) k lt)
+    sym (at-place (card .period .0) (card .mr2) (card .groups) (card .trefi) (card .gap) (card .raise) (card .sleeps) (card .paired) (mr1If (card .programmed) (card .mr1)) (timingIn card) k lt)
     ∙ ap (λ (x : paper.Card). getD (allTimings x) k (x .trcd)) (h .reads)
-    ∙ at-place (form.numberAt 1 fs) (form.numberAt 2 fs) (form.numberAt 3 fs) (form.numberAt 4 fs) (form.numberAt 25 fs) (form.numberAt 26 fs) (form.has 19 fs) (form.has 25 fs) (form.numberIf 23 fs)
+    ∙ at-place (form.periodAt fs) (form.numberAt 2 fs) (form.numberAt 3 fs) (form.numberAt 4 fs) (form.numberAt 25 fs) (form.numberAt 26 fs) (form.has 19 fs) (form.has 25 fs) (form.numberIf 23 fs)
     (λ j. form.timingAt (j + 5) fs) k lt
+
+-- the number of a value by its tag
+number-at : (t k : ℕ) (v : List ℕ) (old : ℕ) → cond (eqb t k) (numberFor t v) old ≡ cond (eqb t k) (numberFor k v) old
+number-at t k v old = ⊎-elim (λ (q : (t ≡ k) × (eqb t k ≡ true)). rw (q .0)) (λ (q : (t ≡ k → ⊥) × (eqb t k ≡ false)). rw (q .1)) (eq-cases t k)
 
 -- the starting MR1, where the newest field may be its
 newest-mr1 : (card : Card) (fs : List form.Field) (f : form.Field) → cardOf card ≡ form.cardOf fs
-    → mr1If (eqb (f .tag) 23 || card .programmed) (cond (eqb (f .tag) 23) (form.number (f .value)) (card .mr1)) ≡ form.numberIf 23 (f ∷ fs)
+    → mr1If (eqb (f .tag) 23 || card .programmed) (cond (eqb (f .tag) 23) (numberFor (f .tag) (f .value)) (card .mr1)) ≡ form.numberIf 23 (f ∷ fs)
 unfolding form.numberIf form.numberAt form.has form.valueOf cardOf form.cardOf mr1If
-newest-mr1 card fs f e = go (eqb (f .tag) 23)
+newest-mr1 card fs f e = rw (number-at (f .tag) 23 (f .value) (card .mr1)) (unfold numberFor in go (eqb (f .tag) 23))
   where
     go : (b : Bool)
         → mr1If (b || card .programmed) (cond b (form.number (f .value)) (card .mr1))
@@ -149,6 +154,10 @@ newest read k f fs old e = go (eqb (f .tag) k)
     go : (b : Bool) → cond b (read (f .value)) old ≡ read (cond b (f .value) (form.valueOf k fs))
     go true = refl
     go false = e
+
+newest-number : (k : ℕ) (f : form.Field) (fs : List form.Field) (old : ℕ) → old ≡ numberFor k (form.valueOf k fs)
+    → cond (eqb (f .tag) k) (numberFor (f .tag) (f .value)) old ≡ numberFor k (form.valueOf k (f ∷ fs))
+newest-number k f fs old e = number-at (f .tag) k (f .value) old ∙ newest (numberFor k) k f fs old e
 
 put-timing : (card : Card) (t x : ℕ) (y : paper.Timing) (k : ℕ)
     → k < 18 → k < length (card .durations) → k < length (card .floors) → timingIn (put card t x y) k ≡ cond (eqb t (k + 5)) y (timingIn card k)
@@ -173,26 +182,26 @@ put-length true k l a = length-set l k a
 put-length false k l a = refl
 
 pub holds-blank : Holds blankCard []
-unfolding blankCard cardOf timingIn form.cardOf form.numberAt form.timingAt form.has form.valueOf form.timingOf form.number form.numberFrom form.numberIf mr1If
+unfolding blankCard cardOf timingIn form.cardOf form.numberAt form.periodAt form.periodOf femto form.timingAt form.has form.valueOf form.timingOf form.number form.numberFrom form.numberIf mr1If
 holds-blank = record { reads = refl; durations-length = refl; floors-length = refl }
 
 pub holds-more : (card : Card) (fs : List form.Field) (f : form.Field) → Holds card fs
-    → Holds (put card (f .tag) (form.number (f .value)) (form.timingOf (f .value))) (f ∷ fs)
-unfolding form.numberAt form.timingAt form.has put cardOf form.cardOf
+    → Holds (put card (f .tag) (numberFor (f .tag) (f .value)) (form.timingOf (f .value))) (f ∷ fs)
+unfolding form.numberAt form.periodAt form.timingAt form.has put cardOf form.cardOf numberFor
 holds-more card fs f h =
-    let x = form.number (f .value) in
+    let x = numberFor (f .tag) (f .value) in
     let y = form.timingOf (f .value) in
     let t = f .tag in
     record {
       reads =
           card-built (put card t x y)
           ∙ same-built
-          (newest form.number 1 f fs (card .period) (ap (λ (z : paper.Card). z .period) (h .reads)))
-          (newest form.number 2 f fs (card .mr2) (ap (λ (z : paper.Card). z .mr2) (h .reads)))
-          (newest form.number 3 f fs (card .groups) (ap (λ (z : paper.Card). z .groups) (h .reads)))
-          (newest form.number 4 f fs (card .trefi) (ap (λ (z : paper.Card). z .trefi) (h .reads)))
-          (newest form.number 25 f fs (card .gap) (ap (λ (z : paper.Card). z .gap) (h .reads)))
-          (newest form.number 26 f fs (card .raise) (ap (λ (z : paper.Card). z .raise) (h .reads)))
+          (newest-number 1 f fs (card .period .0) (ap (λ (z : paper.Card). z .period) (h .reads)))
+          (newest-number 2 f fs (card .mr2) (ap (λ (z : paper.Card). z .mr2) (h .reads)))
+          (newest-number 3 f fs (card .groups) (ap (λ (z : paper.Card). z .groups) (h .reads)))
+          (newest-number 4 f fs (card .trefi) (ap (λ (z : paper.Card). z .trefi) (h .reads)))
+          (newest-number 25 f fs (card .gap) (ap (λ (z : paper.Card). z .gap) (h .reads)))
+          (newest-number 26 f fs (card .raise) (ap (λ (z : paper.Card). z .raise) (h .reads)))
           (ap (λ (z : paper.Card). eqb t 19 || z .sleeps) (h .reads))
           (ap (λ (z : paper.Card). eqb t 25 || z .paired) (h .reads))
           (newest-mr1 card fs f (h .reads))
@@ -208,22 +217,26 @@ holds-more card fs f h =
 
 -- the test of a value's range is that of the field
 pub good-field : (card : Card) (fs : List form.Field) (f : form.Field) → Holds card fs
-    → good (card .sleeps) (card .period) (f .tag) (form.number (f .value)) (form.timingOf (f .value)) ≡ form.fieldGood fs f
-unfolding good form.fieldGood form.gapGood cardOf form.cardOf
-good-field card fs f h = rw (ap (λ (z : paper.Card). z .sleeps) (h .reads), ap (λ (z : paper.Card). z .period) (h .reads))
+    → good (card .sleeps) (card .period .0) (f .tag) (numberFor (f .tag) (f .value)) (form.timingOf (f .value)) ≡ form.fieldGood fs f
+unfolding good form.fieldGood form.gapGood form.periodAt cardOf form.cardOf
+good-field card fs f h = ⊎-elim
+    (λ (q : (f .tag ≡ 1) × (eqb (f .tag) 1 ≡ true)). unfold numberFor in rw (q .1))
+    (λ (q : (f .tag ≡ 1 → ⊥) × (eqb (f .tag) 1 ≡ false)).
+    unfold numberFor in rw (q .1, ap (λ (z : paper.Card). z .sleeps) (h .reads), ap (λ (z : paper.Card). z .period) (h .reads)))
+    (eq-cases (f .tag) 1)
 
 -- reading a field whose tag may come, of its length: in range or refused
 pub read-field : (card : Card) (b : Bool) (last : ℕ) (fs : List form.Field) (f : form.Field) → Holds card fs
     → (form.ofCard (f .tag) && form.mayFollow b last (f .tag)) ≡ true → form.lengthGood (f .tag) (length (f .value)) ≡ true
     → readOf card b last (f .tag) (f .value)
-    ≡ cond (form.fieldGood fs f) (answer 0 0 (put card (f .tag) (form.number (f .value)) (form.timingOf (f .value)))) (answer 4 0 card)
+    ≡ cond (form.fieldGood fs f) (answer 0 0 (put card (f .tag) (numberFor (f .tag) (f .value)) (form.timingOf (f .value)))) (answer 4 0 card)
 unfolding readOf
 read-field card b last fs f h tag size = go (form.fieldGood fs f) (good-field card fs f h)
   where
     next : Card
-    next = put card (f .tag) (form.number (f .value)) (form.timingOf (f .value))
+    next = put card (f .tag) (numberFor (f .tag) (f .value)) (form.timingOf (f .value))
 
-    go : (x : Bool) → good (card .sleeps) (card .period) (f .tag) (form.number (f .value)) (form.timingOf (f .value)) ≡ x
+    go : (x : Bool) → good (card .sleeps) (card .period .0) (f .tag) (numberFor (f .tag) (f .value)) (form.timingOf (f .value)) ≡ x
         → (let y = readRefusal card b last (f .tag) (f .value) in answer (numberOf y) (ruleOf y) (unlessRefused y card next)) ≡ cond x (answer 0 0 next) (answer 4 0 card)
     go true e = unfold readRefusal firstOf orElse unless numberOf ruleOf unlessRefused in rw (tag, size, e)
     go false e = unfold readRefusal firstOf orElse unless refusal numberOf ruleOf unlessRefused in rw (tag, size, e)

@@ -1,5 +1,5 @@
 -- The delays of a card in range, by any temperature, are within 32 bits: the facts over their sizes.
-use Prim.Native.Nat.{ℕ, _+_, _-_, _≤_, _<_}
+use Prim.Native.Nat.{ℕ, _+_, _*_, _-_, _≤_, _<_}
 use mathlib.Core.Path.{_≡_}
 use mathlib.Core.Bool.{Bool, true, false, cond}
 use native.Mathlib.Nat.{div-le-self}
@@ -8,7 +8,7 @@ use lib.Dec.{leb, ltb, lit<}
 use borrow.Author.Tests.{leb-true}
 use Rattle.rules.specs.Card as paper
 use Rattle.rules.specs.Ranges.{periodGood, timingGood, raiseGood, cardGood}
-use Rattle.rules.specs.Units.{roundedUp, n, rowCycle, delaysOf}
+use Rattle.rules.specs.Units.{femto, roundedUp, n, rowCycle, delaysOf}
 use Rattle.rules.specs.Heat.{isHot, longer, hotCard, delaysAt}
 use Rattle.rules.proofs.Tests.{both-true}
 use Rattle.rules.proofs.Rounding.{within-both}
@@ -29,18 +29,18 @@ small x e =
     let (d, f) = both-true (leb (x .duration) 1_000_000) (leb (x .floor) 255) e in
     record { duration = leb-true _ _ d; floor = leb-true _ _ f }
 
-rounded-le : (d p : ℕ) → roundedUp d p ≤ d + (p - 1)
-unfolding roundedUp
-rounded-le d p = div-le-self (d + (p - 1)) p
+rounded-le : (d p : ℕ) → roundedUp (femto d) p ≤ 1000 * d + (p - 1)
+unfolding femto roundedUp
+rounded-le d p = div-le-self (1000 * d + (p - 1)) p
 
 module _ (card : Card) (good : cardGood (cardOf card) ≡ true) where
   -- its period, and each timing by its place
-  in-range : (card .period ≤ 100_000) × ((k : ℕ) → k < 18 → Small 1_000_000 (timingIn card k))
+  in-range : (card .period .0 ≤ 100_000_000) × ((k : ℕ) → k < 18 → Small 1_000_000 (timingIn card k))
   unfolding cardOf periodGood
   in-range =
       let g = good-parts (cardOf card) good in
       let every = rw (all-timings card) at (g .timed) in (
-        within-both 938 100_000 (card .period) (g .period) .1,
+        within-both 938_000 100_000_000 (card .period .0) (g .period) .1,
         λ k lt. small (timingIn card k) (at-each (λ j. timingGood (timingIn card j)) 0 18 every k (omega arith) (omega arith)),
       )
 
@@ -62,7 +62,7 @@ module _ (card : Card) (good : cardGood (cardOf card) ≡ true) where
     unfolding n cardOf
     timing-fits k lt =
         let x = raised-small k lt in
-        omega (arith, in-range .0, x .duration, x .floor, rounded-le (raisedIn card ps k .duration) (card .period))
+        omega (arith, in-range .0, x .duration, x .floor, rounded-le (raisedIn card ps k .duration) (card .period .0))
 
     row-fits : clipped (rowCycle (hotCard (cardOf (raisedBy ps card)))) ≡ rowCycle (hotCard (cardOf (raisedBy ps card)))
     unfolding rowCycle hotCard longer cardOf raisedBy timingIn
@@ -77,7 +77,7 @@ module _ (card : Card) (good : cardGood (cardOf card) ≡ true) where
           a .floor,
           b .duration,
           b .floor,
-          rounded-le (timingIn card 3 .duration + ps + (timingIn card 1 .duration + ps)) (card .period),
+          rounded-le (timingIn card 3 .duration + ps + (timingIn card 1 .duration + ps)) (card .period .0),
         )
 
     hot-fits : shortened (delaysOf (hotCard (cardOf (raisedBy ps card)))) ≡ delaysOf (hotCard (cardOf (raisedBy ps card)))

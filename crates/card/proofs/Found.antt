@@ -10,6 +10,7 @@ use lib.ListN.{length, getD, drop}
 use lib.Seq.{drop-cons}
 use borrow.Author.Tests.{ne-eqb}
 use Rattle.rules.specs.Bits.{bits, on}
+use Rattle.rules.specs.Units.{femto}
 use Rattle.rules.specs.Registers.{Latency, latencies, atCode, rlOf, wlOf}
 use Rattle.card.specs.Rows.{rowOf, foundBy, foundAt}
 use Rattle.card.specs.declared.registers.Row.{Row}
@@ -33,9 +34,9 @@ pub told : {B : Type 0} (h : Found → B) (v : ℕ) (f : Found) → foundAt v �
 unfolding foundAt foundBy
 told h v f e = ap h (sym e) ∙ at-told h (bits v 0 4) (λ x. At (rowOf x)) Nothing latencies
 
--- what the code goes by: the least period, RL and WL
+-- what the code goes by: the least period, which is in ps, RL and WL
 unfoldable pub leastIn : ℕ → Found → Bool
-leastIn p (At r) = leb (r .1) p
+leastIn p (At r) = leb (femto (r .1)) p
 leastIn p Nothing = false
 
 unfoldable pub rlIn : Found → ℕ

@@ -11,8 +11,10 @@ use lib.ListN.{length, getD, drop, drop-of-length-le}
 use lib.Seq.{drop-cons}
 use lib.Pow.{pow-add, pow-mono}
 use borrow.Author.Tests.{leb-true, ltb-true, le-leb}
+use Rattle.rules.specs.Card as paper
+use Rattle.rules.specs.Units.{femto}
 use Rattle.rules.specs.Registers.{mr2Good, mr1Good}
-use Rattle.rules.specs.Ranges.{groupsGood, startGood, mr1Start}
+use Rattle.rules.specs.Ranges.{groupsGood, trefiGood, timingGood, startGood, mr1Start, raiseGood}
 use Rattle.rules.specs.Form.{number, numberFrom}
 use Rattle.rules.proofs.Tests.{both-true}
 use Rattle.rules.proofs.Rounding.{within-both}
@@ -27,8 +29,8 @@ one-more i x b h l =
     let e : 8 * (i + 1) ≡ 8 * i + 8 = omega arith in
     rw (e, pow-add 2 (8 * i) 8) (omega arith)
 
-pub four-fit : (i x : ℕ) → i ≤ 4 → x < 2 ^ (8 * i) → x < 2 ^ 32
-four-fit i x h l = let m : 2 ^ (8 * i) ≤ 2 ^ 32 = pow-mono {j = 32} (omega arith) in omega arith
+pub bytes-fit : (w i x : ℕ) → i ≤ w → x < 2 ^ (8 * i) → x < 2 ^ (8 * w)
+bytes-fit w i x h l = let m : 2 ^ (8 * i) ≤ 2 ^ (8 * w) = pow-mono {j = 8 * w} (omega arith) in omega arith
 
 pub sixteen-fit : (x k : ℕ) → x < 2 ^ 32 → k ≤ 16 → x * k < 2 ^ 37
 sixteen-fit x k h l = let m : x * k ≤ 2 ^ 32 * 16 = mul-le-mul {n₂ = 2 ^ 32} (omega arith) l in omega arith
@@ -55,6 +57,19 @@ start-good false v h = refl
 pub groups-short : (x : ℕ) → groupsGood x ≡ true → x ≤ 16384
 unfolding groupsGood
 groups-short x e = within-both 1 16384 x e .1
+
+-- what a card has in 32 bits
+pub trefi-short : (p x : ℕ) → trefiGood p x ≡ true → x ≤ 20_000_000
+unfolding trefiGood
+trefi-short p x e = leb-true x 20_000_000 (both-true (leb p (femto x)) (leb x 20_000_000) e .1)
+
+pub raise-short : (x : ℕ) → raiseGood x ≡ true → x ≤ 1_000_000
+unfolding raiseGood
+raise-short x e = leb-true x 1_000_000 e
+
+pub timing-short : (x : paper.Timing) → timingGood x ≡ true → x .duration ≤ 1_000_000
+unfolding timingGood
+timing-short x e = leb-true (x .duration) 1_000_000 (both-true (leb (x .duration) 1_000_000) (leb (x .floor) 255) e .0)
 
 pub gap-byte : (b : Bool) (x : ℕ) → (leb x 255 && b) ≡ true → x ≤ 255
 gap-byte b x e = leb-true x 255 (both-true _ _ e .0)

@@ -13,12 +13,12 @@ use Rattle.rules.specs.Card.{Timing}
 use Rattle.rules.specs.Ranges.{within}
 use Rattle.rules.specs.Folds.{orElse, firstOf}
 use Rattle.rules.specs.Checks.{Refusal, refusal, unless}
-use Rattle.rules.specs.Form.{mayFollow, ofCard, known, passedBy, wrongNumber, wrongAfter, number, timingOf, lengthGood}
+use Rattle.rules.specs.Form.{mayFollow, ofCard, known, passedBy, wrongNumber, wrongAfter, number, periodOf, timingOf, lengthGood}
 use Rattle.rules.proofs.Tests.{eq-cases, both-true}
 use Rattle.rules.proofs.Rounding.{within-both}
 use Rattle.card.specs.Values.{timing}
 use Rattle.card.specs.Tags.{wrongOf}
-use Rattle.card.specs.Reading.{good, put, readRefusal, refusalOf, numberOf, ruleOf, unlessRefused, ReadAs, answer, readOf, taken}
+use Rattle.card.specs.Reading.{numberFor, good, put, readRefusal, refusalOf, numberOf, ruleOf, unlessRefused, ReadAs, answer, readOf, taken}
 use Rattle.card.specs.declared.Card.{Card}
 use Rattle.card.specs.declared.Read.{Read}
 use Rattle.card.specs.declared.Wrong.{Wrong}
@@ -52,6 +52,11 @@ wrong-some b last t = go (known t) (ofCard t && passedBy b last t)
     go true false = refl
     go false y = refl
 
+-- a period's does not look at the timing
+same-timing : (c : Card) (x : ℕ) (y z : Timing) → taken c 1 x y ≡ taken c 1 x z
+unfolding taken good put within
+same-timing c x y z = refl
+
 module _ (c : Card) (b : Bool) (last t : ℕ) (v : List ℕ) where
   pub bad-tag : (w : Wrong) → wrongOf w ≡ wrongAfter b last (c .sleeps) t → (ofCard t && mayFollow b last t) ≡ false → ReadAs c b last t v (answer (w .number) (w .expected) c)
   unfolding readRefusal refusalOf ruleOf unlessRefused
@@ -70,20 +75,27 @@ module _ (c : Card) (b : Bool) (last t : ℕ) (v : List ℕ) where
     bad-length e = record { told = rw (tag, e); rule = rw (tag, e); card = rw (tag, e) }
 
     module _ (size : lengthGood t (length v) ≡ true) where
-      whole : ReadAs c b last t v (taken c t (number v) (timingOf v))
+      whole : ReadAs c b last t v (taken c t (numberFor t v) (timingOf v))
       unfolding taken
-      whole = go (good (c .sleeps) (c .period) t (number v) (timingOf v)) refl
+      whole = go (good (c .sleeps) (c .period .0) t (numberFor t v) (timingOf v)) refl
         where
-          go : (x : Bool) → good (c .sleeps) (c .period) t (number v) (timingOf v) ≡ x → ReadAs c b last t v (cond x (answer 0 0 (put c t (number v) (timingOf v))) (answer 4 0 c))
+          go : (x : Bool) → good (c .sleeps) (c .period .0) t (numberFor t v) (timingOf v) ≡ x → ReadAs c b last t v (cond x (answer 0 0 (put c t (numberFor t v) (timingOf v))) (answer 4 0 c))
           go true e = unfold readRefusal firstOf orElse unless refusal refusalOf ruleOf unlessRefused in
               record { told = rw (tag, size, e); rule = rw (tag, size, e); card = rw (tag, size, e) }
           go false e = unfold readRefusal firstOf orElse unless refusal refusalOf ruleOf unlessRefused in
               record { told = rw (tag, size, e); rule = rw (tag, size, e); card = rw (tag, size, e) }
 
-      -- read as four bytes and the rest
-      pub in-parts : ReadAs c b last t v (taken c t (number (take 4 v)) (timing (number (take 4 v)) (number (drop 4 v))))
-      unfolding timingOf
-      in-parts = rw (same-number c t (number (take 4 v)) (number v) (timingOf v) (λ h. ap number (take-all 4 v (card-length t (length v) (both-true _ _ tag .0) size .1 h)))) whole
+      -- a period
+      pub in-fs : t ≡ 1 → (y : Timing) → ReadAs c b last t v (taken c t (periodOf v) y)
+      unfolding numberFor
+      in-fs e y = rw (ap (λ (k : ℕ). taken c k (periodOf v) y) e ∙ same-timing c (periodOf v) y (timingOf v) ∙ ap (λ (k : ℕ). taken c k (numberFor k v) (timingOf v)) (sym e)) whole
+
+      -- any other, read as four bytes and the rest
+      pub in-parts : (t ≡ 1 → ⊥) → ReadAs c b last t v (taken c t (number (take 4 v)) (timing (number (take 4 v)) (number (drop 4 v))))
+      unfolding timingOf numberFor
+      in-parts n =
+          rw (same-number c t (number (take 4 v)) (number v) (timingOf v) (λ h. ap number (take-all 4 v (card-length t (length v) (both-true _ _ tag .0) n size .1 h))))
+          (rw (ne-eqb t 1 n) at whole)
 
   -- the answer whole
   pub read-is : (r : Read) → ReadAs c b last t v r → r ≡ readOf c b last t v

@@ -5,7 +5,7 @@ use Rattle.card.specs.declared.Card.{Card}
 
 unfoldable pub benchCard : Card
 benchCard = record {
-  period = 1250;
+  period = record { 0 = 1_250_000 };
   mr2 = 0x1a;
   groups = 8192;
   trefi = 3_900_000;

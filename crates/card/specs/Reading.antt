@@ -11,15 +11,25 @@ use Rattle.rules.specs.Registers.{mr2Good}
 use Rattle.rules.specs.Ranges.{within, periodGood, groupsGood, trefiGood, timingGood, startGood, raiseGood}
 use Rattle.rules.specs.Folds.{firstOf}
 use Rattle.rules.specs.Checks.{Refusal, refusal, unless}
-use Rattle.rules.specs.Form.{mayFollow, ofCard, wrongAfter, number, timingOf, lengthGood}
+use Rattle.rules.specs.Form.{mayFollow, ofCard, wrongAfter, number, periodOf, timingOf, lengthGood}
 use Rattle.card.specs.declared.Card.{Card}
 use Rattle.card.specs.declared.Read.{Read}
+use Rattle.card.specs.declared.values.Sizes.{Sizes}
 
--- the listed length of a tag; 0 where there is no such tag
-unfoldable pub sizeOf : ℕ → ℕ
-sizeOf t =
-    cond (eqb t 1 || eqb t 4 || eqb t 26 || eqb t 33) 4
-    (cond (eqb t 2 || eqb t 23 || eqb t 25) 1 (cond (eqb t 3) 2 (cond (within 5 22 t || eqb t 34) 5 (cond (eqb t 32) 7 0))))
+-- the listed lengths of a tag; 0 where there is no such tag
+abbrev pub sizes : ℕ → ℕ → Sizes
+sizes k l = record { 0 = k; 1 = l }
+
+unfoldable pub sizesOf : ℕ → Sizes
+sizesOf t =
+    cond (eqb t 1) (sizes 4 8)
+    (cond (eqb t 4 || eqb t 26 || eqb t 33) (sizes 4 4)
+    (cond (eqb t 2 || eqb t 23 || eqb t 25) (sizes 1 1)
+    (cond (eqb t 3) (sizes 2 2) (cond (within 5 22 t || eqb t 34) (sizes 5 5) (cond (eqb t 32) (sizes 7 7) (sizes 0 0))))))
+
+-- the number of a value: a period is in fs
+unfoldable pub numberFor : (tag : ℕ) → List ℕ → ℕ
+numberFor t v = cond (eqb t 1) (periodOf v) (number v)
 
 -- whether a value is in range: tags 1 to 4, 23, 25 and 26 are the number x, tags 5 to 22 the timing y; sleeps and period are those read before
 unfoldable pub good : (sleeps : Bool) → (period tag x : ℕ) → paper.Timing → Bool
@@ -35,7 +45,7 @@ good s p t x y =
 -- the card with the value of this tag in it
 unfoldable pub put : Card → (tag x : ℕ) → paper.Timing → Card
 put c t x y = record {
-  period = cond (eqb t 1) x (c .period);
+  period = record { 0 = cond (eqb t 1) x (c .period .0) };
   mr2 = cond (eqb t 2) x (c .mr2);
   groups = cond (eqb t 3) x (c .groups);
   trefi = cond (eqb t 4) x (c .trefi);
@@ -53,7 +63,7 @@ put c t x y = record {
 unfoldable pub readRefusal : Card → (begun : Bool) → (last tag : ℕ) → List ℕ → Option Refusal
 readRefusal c b last t v =
     cond (ofCard t && mayFollow b last t)
-    (firstOf (unless (lengthGood t (length v)) 3 ∷ unless (good (c .sleeps) (c .period) t (number v) (timingOf v)) 4 ∷ []))
+    (firstOf (unless (lengthGood t (length v)) 3 ∷ unless (good (c .sleeps) (c .period .0) t (numberFor t v) (timingOf v)) 4 ∷ []))
     (some (wrongAfter b last (c .sleeps) t))
 
 -- the numbers that the code's two stand for; 0 is none
@@ -78,7 +88,7 @@ unlessRefused (some x) old new = old
 pub record ReadAs (c : Card) (b : Bool) (last t : ℕ) (v : List ℕ) (r : Read) : Type 0 where
   pub told : refusalOf (r .refusal) (r .rule) ≡ readRefusal c b last t v
   pub rule : r .rule ≡ ruleOf (readRefusal c b last t v)
-  pub card : r .card ≡ unlessRefused (readRefusal c b last t v) c (put c t (number v) (timingOf v))
+  pub card : r .card ≡ unlessRefused (readRefusal c b last t v) c (put c t (numberFor t v) (timingOf v))
 
 abbrev pub answer : (number rule : ℕ) → Card → Read
 answer k q c = record { refusal = k; rule = q; card = c }
@@ -87,15 +97,15 @@ answer k q c = record { refusal = k; rule = q; card = c }
 unfoldable pub readOf : Card → (begun : Bool) → (last tag : ℕ) → List ℕ → Read
 readOf c b last t v =
     let x = readRefusal c b last t v in
-    answer (numberOf x) (ruleOf x) (unlessRefused x c (put c t (number v) (timingOf v)))
+    answer (numberOf x) (ruleOf x) (unlessRefused x c (put c t (numberFor t v) (timingOf v)))
 
 -- a value of its tag's length, by its numbers
 unfoldable pub taken : Card → (tag x : ℕ) → paper.Timing → Read
-taken c t x y = cond (good (c .sleeps) (c .period) t x y) (answer 0 0 (put c t x y)) (answer 4 0 c)
+taken c t x y = cond (good (c .sleeps) (c .period .0) t x y) (answer 0 0 (put c t x y)) (answer 4 0 c)
 
 unfoldable pub blankCard : Card
 blankCard = record {
-  period = 0;
+  period = record { 0 = 0 };
   mr2 = 0;
   groups = 0;
   trefi = 0;

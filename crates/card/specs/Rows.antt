@@ -3,6 +3,7 @@ use Prim.Native.Nat.{ℕ, _+_, _*_, _/_, _%_}
 use mathlib.Core.Bool.{Bool, false}
 use lib.Dec.{leb}
 use Rattle.rules.specs.Bits.{bits}
+use Rattle.rules.specs.Units.{femto}
 use Rattle.rules.specs.Registers as paper
 use Rattle.card.specs.declared.registers.Row.{Row}
 use Rattle.card.specs.declared.registers.Found.{Found}
@@ -21,7 +22,7 @@ foundAt v = foundBy (bits v 0 4)
 
 -- OP3-0 of this MR2 is a code whose least period does not exceed this one
 unfoldable pub codeGood : (period mr2 : ℕ) → Bool
-codeGood p v = paper.atCode (bits v 0 4) (λ x. leb (x .least) p) false paper.latencies
+codeGood p v = paper.atCode (bits v 0 4) (λ x. leb (femto (x .least)) p) false paper.latencies
 
 -- OP4 of MR2 before OP7-5 of MR1, and nWR of such a pair
 unfoldable pub pairOf : (mr2 mr1 : ℕ) → ℕ

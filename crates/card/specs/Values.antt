@@ -26,7 +26,7 @@ modesOf m = record { mr2 = m .mr2; mr1 = mr1If (m .programmed) (m .mr1) }
 
 unfoldable pub cardOf : Card → paper.Card
 cardOf card = record {
-  period = card .period;
+  period = card .period .0;
   mr2 = card .mr2;
   groups = card .groups;
   trefi = card .trefi;

@@ -2,12 +2,13 @@
 ghost use mathlib.Core.Path.{_≡_};
 ghost use Rattle.card.specs.Bench.{benchCard};
 use crate::Card;
+use crate::Femtoseconds;
 
 pub fn bench() -> Card
     ensures { λ r. ⌜ r ≡ benchCard ⌝ }
 {
     Card {
-        period: 1250,
+        period: Femtoseconds(1_250_000),
         mr2: 0x1a,
         groups: 8192,
         trefi: 3900000,

@@ -26,6 +26,8 @@ pub use values::read_value;
 
 pub struct Picoseconds(pub u64);
 
+pub struct Femtoseconds(pub u64);
+
 pub struct Clocks(pub u64);
 
 // `durations` and `floors` are the two columns of tags 5 to 22: trcd, trppb, trpab, tras, trrd, tfaw, trtp, twr, twtr, tdqsck,
@@ -33,7 +35,7 @@ pub struct Clocks(pub u64);
 // starting MR1. `paired`: tag 25 is there; `gap`: its clocks between
 // the two parts. `raise`: tag 26, what the hottest code of MR4 adds to the first five durations; 0 where the card has none.
 pub struct Card {
-    pub period: u32,
+    pub period: Femtoseconds,
     pub mr2: u8,
     pub groups: u16,
     pub trefi: u32,

@@ -6,28 +6,44 @@ ghost use Rattle.rules.specs.Ranges as paper;
 ghost use Rattle.card.specs.Reading.{good};
 ghost use Rattle.card.specs.Values.{cardOf, timing};
 use crate::Card;
+use crate::Femtoseconds;
+use crate::Picoseconds;
 use crate::registers::mr1_good;
 use crate::registers::mr2_good;
+use crate::units::femtoseconds;
 
-fn within(low: u32, high: u32, x: u32) -> bool
+fn within(low: u64, high: u64, x: u64) -> bool
     ensures { λ r. ⌜ r ≡ paper.within low high x ⌝ }
 {
     (low <= x) & (x <= high)
 }
 
 // A floor is one byte, and any will do.
-fn timing_good(duration: u32, floor: u8) -> bool
+fn timing_good(duration: u64, floor: u8) -> bool
     ensures { λ r. ⌜ r ≡ paper.timingGood (timing duration floor) ⌝ }
 {
     duration <= 1_000_000
 }
 
-// The value of this tag: a number, or the two numbers of a timing. A gap comes in no card that sleeps.
-pub fn value_good(sleeps: bool, period: u32, tag: u8, x: u32, floor: u8) -> bool
-    ensures { λ r. ⌜ r ≡ good sleeps period tag x (timing x floor) ⌝ }
+// The upper bound first: no product is taken of what is beyond it.
+fn trefi_good(period: Femtoseconds, ps: u64) -> bool
+    ensures { λ r. ⌜ r ≡ paper.trefiGood (period .0) ps ⌝ }
+{
+    if 20_000_000 < ps {
+        return false;
+    }
+    if femtoseconds(Picoseconds(ps)).0 < period.0 {
+        return false;
+    }
+    true
+}
+
+// The value of this tag: a number, tag 1's in femtoseconds, or the two numbers of a timing. A gap comes in no card that sleeps.
+pub fn value_good(sleeps: bool, period: Femtoseconds, tag: u8, x: u64, floor: u8) -> bool
+    ensures { λ r. ⌜ r ≡ good sleeps (period .0) tag x (timing x floor) ⌝ }
 {
     if tag == 1 {
-        return within(938, 100_000, x);
+        return within(938_000, 100_000_000, x);
     }
     if tag == 2 {
         if 255 < x {
@@ -39,7 +55,7 @@ pub fn value_good(sleeps: bool, period: u32, tag: u8, x: u32, floor: u8) -> bool
         return within(1, 16_384, x);
     }
     if tag == 4 {
-        return within(period, 20_000_000, x);
+        return trefi_good(period, x);
     }
     if tag == 23 {
         if 255 < x {
@@ -61,7 +77,7 @@ fn timings_good(card: Card) -> bool
 {
     let mut i: usize = 0;
     while i < 18 {
-        if !timing_good(card.durations[i], card.floors[i]) {
+        if !timing_good(card.durations[i] as u64, card.floors[i]) {
             return false;
         }
         i += 1;
@@ -72,12 +88,12 @@ fn timings_good(card: Card) -> bool
 pub fn in_range(card: Card) -> bool
     ensures { λ r. ⌜ r ≡ paper.cardGood (cardOf card) ⌝ }
 {
-    value_good(card.sleeps, card.period, 1, card.period, 0)
+    value_good(card.sleeps, card.period, 1, card.period.0, 0)
         & mr2_good(card.period, card.mr2)
-        & value_good(card.sleeps, card.period, 3, card.groups as u32, 0)
-        & value_good(card.sleeps, card.period, 4, card.trefi, 0)
+        & value_good(card.sleeps, card.period, 3, card.groups as u64, 0)
+        & value_good(card.sleeps, card.period, 4, card.trefi as u64, 0)
         & (timings_good(card)
             & (!(card.sleeps & card.paired)
-                & value_good(card.sleeps, card.period, 26, card.raise, 0)
+                & value_good(card.sleeps, card.period, 26, card.raise as u64, 0)
                 & (!card.programmed | mr1_good(card.mr1))))
 }

@@ -3,8 +3,11 @@ ghost use mathlib.Core.Path.{_≡_};
 ghost use Rattle.rules.specs.Registers.{mr2Good, rlOf, wlOf, mr1Good, nwrOf, mayWrite};
 ghost use Rattle.card.specs.Rows.{foundAt, codeGood, pairOf, recoveryAt};
 ghost use Rattle.card.specs.Values.{modesOf};
+use crate::Femtoseconds;
 use crate::Latency;
 use crate::Modes;
+use crate::Picoseconds;
+use crate::units::femtoseconds;
 
 // A row of the table: the code in MR2's OP3-0, the least period in ps that it may stand with, RL, and WL of set A and of set B.
 pub struct Row(u8, u32, u8, u8, u8);
@@ -62,17 +65,17 @@ fn row_at(mr2: u8) -> Found
 }
 
 // Whether OP3-0 of MR2 is a code whose least period does not exceed the card's.
-fn code_good(period: u32, mr2: u8) -> bool
-    ensures { λ r. ⌜ r ≡ codeGood period mr2 ⌝ }
+fn code_good(period: Femtoseconds, mr2: u8) -> bool
+    ensures { λ r. ⌜ r ≡ codeGood (period .0) mr2 ⌝ }
 {
     match search(mr2) {
-        Found::At(row) => row.1 <= period,
+        Found::At(row) => femtoseconds(Picoseconds(row.1 as u64)).0 <= period.0,
         Found::Nothing => false,
     }
 }
 
-pub fn mr2_good(period: u32, value: u8) -> bool
-    ensures { λ r. ⌜ r ≡ mr2Good period value ⌝ }
+pub fn mr2_good(period: Femtoseconds, value: u8) -> bool
+    ensures { λ r. ⌜ r ≡ mr2Good (period .0) value ⌝ }
 {
     (value / 128 % 2 != 1) & (value / 32 % 2 != 1) & code_good(period, value)
 }
@@ -141,8 +144,8 @@ pub fn mr1_good(value: u8) -> bool
 }
 
 // What 9 asks of a value: only MA 1 and 2 ask anything of it; whether an MA is listed is 7's question.
-pub fn mrw_value_good(period: u32, ma: u8, op: u8) -> bool
-    ensures { λ r. ⌜ r ≡ mayWrite period ma op ⌝ }
+pub fn mrw_value_good(period: Femtoseconds, ma: u8, op: u8) -> bool
+    ensures { λ r. ⌜ r ≡ mayWrite (period .0) ma op ⌝ }
 {
     if ma == 1 {
         return mr1_good(op);

@@ -8,6 +8,7 @@ ghost use Rattle.card.specs.Parts.{raisedBy, raisedIn, raiseAt, Counted,
 use crate::Card;
 use crate::Clocks;
 use crate::Delays;
+use crate::Femtoseconds;
 use crate::Picoseconds;
 use crate::heat::is_hot;
 use crate::heat::quarters;
@@ -66,7 +67,7 @@ fn timing_clocks(card: Card, raise: u32, i: usize) -> u32
     requires { ⌜ i < 18 ⌝ }
     ensures { λ r. ⌜ r ≡ clipped (paper.n (cardOf card) (raisedIn card raise i)) ⌝ }
 {
-    short(least_clocks(timing(card, raise, i), picoseconds(card.period)))
+    short(least_clocks(timing(card, raise, i), card.period))
 }
 
 fn all_clocks(card: Card, raise: u32) -> [u32; 18]
@@ -91,7 +92,7 @@ fn joined_clocks(card: Card, raise: u32) -> Clocks
         duration: Picoseconds(ras.duration.0 + rp.duration.0),
         floor: Clocks(ras.floor.0 + rp.floor.0),
     };
-    least_clocks(both, picoseconds(card.period))
+    least_clocks(both, card.period)
 }
 
 // tRC
@@ -144,18 +145,18 @@ pub fn delays_at(card: Card, mr4: u8) -> Delays
     hot_delays(card, raise_at(card, mr4))
 }
 
-fn times(d: Picoseconds, k: u64) -> Picoseconds
+// A quarter of a picosecond is 250 femtoseconds.
+fn in_quarters(d: Picoseconds, k: u64) -> Femtoseconds
     requires { ⌜ (d .0 < 2 ^ 32) × (k ≤ 16) ⌝ }
-    ensures { λ r. ⌜ (r .0 ≡ d .0 * k) × (r .0 < 2 ^ 37) ⌝ }
+    ensures { λ r. ⌜ (r .0 ≡ 250 * (d .0 * k)) × (r .0 < 2 ^ 45) ⌝ }
 {
-    Picoseconds(d.0 * k)
+    Femtoseconds(250 * (d.0 * k))
 }
 
-// I: the quarters of tREFI over four periods, so that the factor goes in before the rounding.
+// I: the factor goes in before the rounding.
 pub fn interval_at(card: Card, mr4: u8) -> u64
     ensures { λ r. ⌜ r ≡ intervalAt (cardOf card) mr4 ⌝ }
 {
-    let refi = times(picoseconds(card.trefi), quarters(mr4));
-    let period = times(picoseconds(card.period), 4);
-    greater(1, whole_periods(refi, period).0)
+    let refi = in_quarters(picoseconds(card.trefi), quarters(mr4));
+    greater(1, whole_periods(refi, card.period).0)
 }

@@ -6,7 +6,7 @@ use native.Mathlib.Omega.{arith}
 use lib.ListN.{length, take, drop, getD, length-take}
 use Rattle.rules.specs.Lists.{Every}
 use Rattle.rules.specs.Form.{number, numberFrom}
-use Rattle.card.proofs.Numbers.{one-more, four-fit}
+use Rattle.card.proofs.Numbers.{one-more, bytes-fit}
 
 abbrev pub Bytes : List ℕ → Type 0
 Bytes bs = Every (λ b. b < 256) bs
@@ -43,4 +43,4 @@ number-small (b ∷ v) i x h l =
 
 pub four-small : (v : List ℕ) → Bytes v → number (take 4 v) < 2 ^ 32
 unfolding number
-four-small v h = four-fit (0 + length (take 4 v)) (number (take 4 v)) (rw length-take (omega arith)) (number-small (take 4 v) 0 0 (bytes-take 4 v h) (omega arith))
+four-small v h = bytes-fit 4 (0 + length (take 4 v)) (number (take 4 v)) (rw length-take (omega arith)) (number-small (take 4 v) 0 0 (bytes-take 4 v h) (omega arith))

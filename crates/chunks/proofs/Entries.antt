@@ -30,7 +30,7 @@ not-so : {A : Type 0} → false ≡ true → A
 not-so e = absurd (let z : _≡_ {A = ℕ} 0 1 = cc in omega arith)
 
 entry-length : form.lengthGood 32 7 ≡ true
-unfolding reading.sizeOf within
+unfolding reading.sizesOf within
 entry-length = sym (as-listed 32 7 (lit< tt))
 
 -- ---- an entry's field stands at the start of some bytes

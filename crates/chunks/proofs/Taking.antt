@@ -80,7 +80,7 @@ module _ (st : State) (bs : List ℕ) (v : Read) (r : ReadAs (st .rec .card) (st
   unfolding cardTook cardAfter fieldIn reading.refusalOf reading.unlessRefused
   card-taken h z =
       let o : readThere ≡ none = sym (read-all .told) ∙ rw (eq-eqb _ _ z) in
-      let c : v .card ≡ reading.put (st .rec .card) (getD bs 0 0) (form.number (drop 3 bs)) (form.timingOf (drop 3 bs)) = rw o at (read-all .card) in
+      let c : v .card ≡ reading.put (st .rec .card) (getD bs 0 0) (reading.numberFor (getD bs 0 0) (drop 3 bs)) (form.timingOf (drop 3 bs)) = rw o at (read-all .card) in
       rw (o, cardTook, size-in bs h, c)
 
 -- ---- what is told in numbers

@@ -6,11 +6,11 @@ use mathlib.Core.List.{List, [], _∷_}
 use mathlib.Core.Option.{Option, none, some}
 use lib.Dec.{eqb}
 use Rattle.rules.specs.Checks.{Refusal}
-use Rattle.rules.specs.Form.{Field, sizeOf, sleepTags, number, timingOf, ofEntry, Head, whole, cut, badTag, badLength, headOf, entryOf, endOf}
+use Rattle.rules.specs.Form.{Field, sizeOf, sleepTags, timingOf, ofEntry, Head, whole, cut, badTag, badLength, headOf, entryOf, endOf}
 use Rattle.rules.specs.Lent.{stepRefusal, closeRefusal, movedOn}
 use Rattle.card.specs.declared.Card.{Card}
 use Rattle.card.specs.Values.{cardOf}
-use Rattle.card.specs.Reading.{put, readRefusal}
+use Rattle.card.specs.Reading.{numberFor, put, readRefusal}
 use Rattle.ledger.specs.declared.Ledger.{Ledger}
 use Rattle.ledger.specs.declared.Pace.{Pace}
 use Rattle.ledger.specs.Values.{ledgerOf, codeOf, paceOf}
@@ -49,7 +49,7 @@ refusedTag k e st = tookAs (End (Refused k e (st .offset) 0)) st
 unfoldable pub cardAfter : State → Field → State
 cardAfter st f = record {
   tag = f .tag;
-  rec = freshOf (put (st .rec .card) (f .tag) (number (f .value)) (timingOf (f .value)));
+  rec = freshOf (put (st .rec .card) (f .tag) (numberFor (f .tag) (f .value)) (timingOf (f .value)));
   commands = st .commands;
   refreshes = st .refreshes;
   offset = wrapped (st .offset + sizeOf f);

@@ -1,17 +1,15 @@
 -- A call comes to something: with room for a line it takes a field or says why not, and what it leaves waiting is less than one field.
 use Prim.Native.Nat.{ℕ, _+_, _*_, _≤_, _<_}
-use mathlib.Core.Path.{_≡_, refl, sym}
+use mathlib.Core.Path.{_≡_, sym}
 use mathlib.Core.Bool.{Bool, true, false, cond}
 use mathlib.Core.List.{List, [], _∷_}
 use native.Mathlib.Omega.{arith}
 use lib.Dec.{leb, eqb}
 use lib.ListN.{length, drop, length-drop}
-use borrow.Author.Tests.{leb-true, leb-false}
-use Rattle.rules.specs.Lists.{all}
-use Rattle.rules.specs.Form.{Field, Head, _of_, lengths, lengthGood}
+use borrow.Author.Tests.{leb-false}
+use Rattle.rules.specs.Form.{Field, Head}
 use Rattle.rules.specs.FileReading.{Cut, noTag, noLength, halfLength, shortValue}
 use Rattle.rules.proofs.FileHeads.{HeadSays, is-whole, is-cut, is-bad-tag, is-bad-length, head-says}
-use Rattle.card.proofs.Lengths.{listed-has}
 use Rattle.chunks.specs.declared.State.{State}
 use Rattle.chunks.specs.declared.What.the-variants.{More, Full}
 use Rattle.chunks.specs.declared.fields.Move.the-variants.{Wait}
@@ -21,41 +19,38 @@ use Rattle.chunks.proofs.Turns.{hasRoom}
 use Rattle.chunks.proofs.Advances.{wait-on, field-how, taken-size}
 use Rattle.chunks.proofs.Walks.{Walk, stops-full, stops-more, stops-over, takes, walk}
 use Rattle.judge.proofs.Prefix.{end-wait}
+use Rattle.judge.proofs.Overflow.{short-value}
 use Rattle.judge.proofs.Chunks.{left-over}
 
--- ---- a field has at most 10 bytes
-short-value : (t l : ℕ) → lengthGood t l ≡ true → l ≤ 7
-unfolding lengthGood lengths _of_ all
-short-value t l e = leb-true l 7 (listed-has (λ k s. leb s 7) lengths t l refl e)
-
-cut-short : {b : Bool} (fs : List Field) {bs : List ℕ} → Cut b fs bs → length bs < 10
+-- ---- a field has at most 11 bytes
+cut-short : {b : Bool} (fs : List Field) {bs : List ℕ} → Cut b fs bs → length bs < 11
 cut-short fs noTag = omega arith
 cut-short fs (noLength m) = omega arith
 cut-short fs (halfLength m) = omega arith
 cut-short fs (shortValue {t} {h} {l} m g s) = omega (arith, short-value t (256 * h + l) g)
 
-head-short : (st : State) (b : Bool) (fs : List Field) {bs : List ℕ} {h : Head} → HeadSays b fs bs h → headTook st h .how ≡ Wait → length bs < 10
+head-short : (st : State) (b : Bool) (fs : List Field) {bs : List ℕ} {h : Head} → HeadSays b fs bs h → headTook st h .how ≡ Wait → length bs < 11
 unfolding headTook refusedBy refusedTag
 head-short st b fs (is-whole f rest r) e = field-how st f Wait (λ q. wait-on (sym q)) (λ v q. absurd (end-wait q)) e
 head-short st b fs (is-cut c) e = cut-short fs c
 head-short st b fs (is-bad-tag m) e = absurd (end-wait e)
 head-short st b fs (is-bad-length m g) e = absurd (end-wait e)
 
-behind-short : (st : State) (bs : List ℕ) → behindTook st bs .how ≡ Wait → length bs < 10
+behind-short : (st : State) (bs : List ℕ) → behindTook st bs .how ≡ Wait → length bs < 11
 unfolding behindTook refusedBy
 behind-short st [] e = omega arith
 behind-short st (b ∷ bs) e = absurd (end-wait e)
 
-wait-short : (st : State) (bs : List ℕ) → tookOf st bs .how ≡ Wait → length bs < 10
+wait-short : (st : State) (bs : List ℕ) → tookOf st bs .how ≡ Wait → length bs < 11
 unfolding tookOf
 wait-short st bs e = go (eqb (st .tag) 33) e
   where
-    go : (b : Bool) → cond b (behindTook st bs) (headTook st (headAt st bs)) .how ≡ Wait → length bs < 10
+    go : (b : Bool) → cond b (behindTook st bs) (headTook st (headAt st bs)) .how ≡ Wait → length bs < 11
     go true e = behind-short st bs e
     go false e = head-short st (st .rec .last .seen) (readIn st) (head-says (st .rec .last .seen) (readIn st) bs) (unfold headAt in e)
 
--- so a buffer of 10 bytes is enough for what is left over
-pub left-short : (q : Bool) (room : ℕ) (st : State) (bs : List ℕ) → heardOf q room st bs .what ≡ More → length (drop (heardOf q room st bs .used) bs) < 10
+-- so a buffer of 11 bytes is enough for what is left over
+pub left-short : (q : Bool) (room : ℕ) (st : State) (bs : List ℕ) → heardOf q room st bs .what ≡ More → length (drop (heardOf q room st bs .used) bs) < 11
 left-short q room st bs e = wait-short _ _ (rw e at (left-over (walk q room st bs)))
 
 -- ---- fields are taken

@@ -52,8 +52,8 @@ pub record Stands (st : State) (fs : List Field) (past : Past) (at : ℕ) : Type
   pub commands : st .commands ≡ commandCount past
   pub refreshes : st .refreshes ≡ refreshCount (cardOf fs) past
   pub offset : st .offset ≡ at
-  -- a field has at most ten bytes
-  pub near : at ≤ 10 * (length fs + length past)
+  -- a field has at most eleven bytes
+  pub near : at ≤ 11 * (length fs + length past)
 
 pub start-stands : Stands startOf [] [] 0
 unfolding startOf CardRight AllTaken lastCycle commandCount
@@ -134,5 +134,5 @@ module _ {st : State} {fs : List Field} {past : Past} {at : ℕ} (s : Stands st 
     omega (arith, s .offset, s .near, entries-few, tags-rise fs (s .card), tag-below fs (s .card)),
   )
 
-  pub offset-behind : (f : Field) → sizeOf f ≤ 10 → wrapped (st .offset + sizeOf f) ≡ at + sizeOf f
+  pub offset-behind : (f : Field) → sizeOf f ≤ 11 → wrapped (st .offset + sizeOf f) ≡ at + sizeOf f
   offset-behind f h = rw (s .offset) (wrapped-is (at + sizeOf f) (omega (arith, s .offset, far-below .2)))

@@ -61,8 +61,8 @@ module _ {st : State} {fs : List Field} {past : Past} {at : ℕ} (s : Stands st 
   sized : lengthGood (f .tag) (length (f .value)) ≡ true
   sized = rw (form .whole) (form .size)
 
-  size : sizeOf f ≤ 10
-  size = size-small fs f form (omega (arith, tag-in))
+  size : sizeOf f ≤ 11
+  size = size-small fs f form
 
   read-is : readRefusal (st .rec .card) (st .rec .last .seen) (st .tag) (f .tag) (f .value) ≡ unless (fieldGood fs f) 4
   unfolding readRefusal firstOf orElse unless

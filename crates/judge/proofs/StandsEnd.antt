@@ -127,8 +127,8 @@ module _ {st : State} {fs : List Field} {past : Past} {at : ℕ} (s : Stands st 
       tag = refl;
       says = unfold verdictOf endedAt acceptedAt in rw (s .commands, s .refreshes, owed-is (endOf f) n);
       offset = there;
-      near = let b = far-below s in (b .0, b .1, omega (arith, there, s .offset, b .2, size-small fs f form (omega arith)));
+      near = let b = far-below s in (b .0, b .1, omega (arith, there, s .offset, b .2, size-small fs f form));
     }
       where
         there : wrapped (st .offset + sizeOf f) ≡ at + sizeOf f
-        there = offset-behind s f (size-small fs f form (omega arith))
+        there = offset-behind s f (size-small fs f form)

@@ -34,7 +34,7 @@ use Rattle.chunks.specs.Took.{tookAs, wrapped, refusedHere, entryAfter, entryRe
 use Rattle.chunks.specs.Heard.{fieldLine}
 use Rattle.chunks.proofs.Bytes.{Bytes}
 use Rattle.chunks.proofs.Wraps.{wrapped-is}
-use Rattle.judge.proofs.Overflow.{stamp-small, entry-tag, size-small}
+use Rattle.judge.proofs.Overflow.{stamp-small, size-small}
 use Rattle.judge.proofs.Counts.{countedNow, counted-next}
 use Rattle.judge.proofs.Printed.{printed}
 use Rattle.judge.proofs.Stands.{Stands, far-below, offset-behind}
@@ -144,7 +144,7 @@ module _ {st : State} {fs : List Field} {past : Past} {at : ℕ} (s : Stands st 
       pub entry-stands : Bytes (bytesOf f) → Stands (entryAfter st f) fs (pastWith (cardOf fs) past (entryOf f)) (at + sizeOf f)
       unfolding entryAfter lastCycle
       entry-stands b =
-          let size : sizeOf f ≤ 10 = size-small fs f form (omega (arith, entry-tag (f .tag) t)) in
+          let size : sizeOf f ≤ 11 = size-small fs f form in
           record {
             card = s .card;
             tag = s .tag;

@@ -63,12 +63,12 @@ module _ (b : Beat) (n : ℕ) (a : Spaced b) where
     pub next-fits : (x : ℕ) → b .next < 2 ^ 64 → x ≡ fallen b n → b .next + x * I < 2 ^ 64
     next-fits x l e = rw e (omega (arith, past-near, a .small))
 
-    pub over-fits : (o x : ℕ) → b .next < 2 ^ 40 → x ≡ nextAfter b n → x + (16 - o) * I < 2 ^ 64
+    pub over-fits : (o x : ℕ) → b .next < 2 ^ 50 → x ≡ nextAfter b n → x + (16 - o) * I < 2 ^ 64
     over-fits o x l e =
         let m : (16 - o) * I ≤ 16 * I = mul-le-mul-right I (omega arith) in
         rw e (omega (arith, next-near, m, a .small))
 
-pub more-fit : (I k : ℕ) → k ≤ 16 → I < 2 ^ 36 → k * I < 2 ^ 64
+pub more-fit : (I k : ℕ) → k ≤ 16 → I < 2 ^ 46 → k * I < 2 ^ 64
 more-fit I k h l = let m : k * I ≤ 16 * I = mul-le-mul-right I h in omega arith
 
 -- as the code finds them
@@ -80,7 +80,7 @@ pub over-so : (b : Beat) (n o x : ℕ) → x ≡ nextAfter b n → x + (16 - o) 
 over-so b n o x e = rw e
 
 -- the first number that fails, of a beat whose next due is not reached before 20 fails, and of one whose is
-pub late-small : (span n since x : ℕ) → x ≡ lateAt span n since → span < 2 ^ 36 → n < 2 ^ 32 → since < 2 ^ 32 → x < 2 ^ 40
+pub late-small : (span n since x : ℕ) → x ≡ lateAt span n since → span < 2 ^ 46 → n < 2 ^ 32 → since < 2 ^ 32 → x < 2 ^ 50
 late-small span n since x e l h k = rw e (omega arith)
 
 module _ (b : Beat) (n o since : ℕ) (a : Spaced b) where
@@ -94,14 +94,14 @@ module _ (b : Beat) (n o since : ℕ) (a : Spaced b) where
   far x e h = omega (arith, next-from b n a)
 
   module _ (y : ℕ) (e : y ≡ late) where
-    pub late-first : y < over → y < 2 ^ 40 → FirstAs b n o since (record { rule = 20; number = y })
+    pub late-first : y < over → y < 2 ^ 50 → FirstAs b n o since (record { rule = 20; number = y })
     late-first h s = record {
       rule-is = sym (rw (lt-leb over late (rw e at h)));
       number-is = e ∙ sym (min-eq-right (le-of-lt (rw e at h)));
       small = s;
     }
 
-    pub over-first : (x : ℕ) → x ≡ over → x ≤ y → y < 2 ^ 40 → FirstAs b n o since (record { rule = 19; number = x })
+    pub over-first : (x : ℕ) → x ≡ over → x ≤ y → y < 2 ^ 50 → FirstAs b n o since (record { rule = 19; number = x })
     over-first x i h s =
         let l : over ≤ late = rw (i, e) at h in
         record {

@@ -7,6 +7,7 @@ use native.Mathlib.Nat.{div-le-self, mul-le-mul-left, min-eq-left, min-eq-right,
 use native.Mathlib.Omega.{arith}
 use lib.Dec.{eqb}
 use Rattle.rules.specs.Card as paper
+use Rattle.rules.specs.Units.{femto}
 use Rattle.rules.specs.Heat.{heat, quarters, startMR4, intervalAt}
 use Rattle.rules.specs.Account.{nextAfter}
 use Rattle.rules.specs.Account as account
@@ -30,11 +31,11 @@ quarters-le c = go (eqb c 0b001) (eqb c 0b010) (eqb c 0b100) (eqb c 0b101 || eqb
     go false false false true = omega arith
     go false false false false = omega arith
 
-interval-small : (card : paper.Card) (v : ℕ) → card .trefi < 2 ^ 32 → intervalAt card v < 2 ^ 36
-unfolding intervalAt
+interval-small : (card : paper.Card) (v : ℕ) → card .trefi < 2 ^ 32 → intervalAt card v < 2 ^ 46
+unfolding intervalAt femto
 interval-small card v h =
-    let q : card .trefi * quarters (heat v) ≤ card .trefi * 16 = mul-le-mul-left (card .trefi) (quarters-le (heat v)) in
-    omega (arith, div-le-self (card .trefi * quarters (heat v)) (card .period * 4))
+    let q : 1000 * card .trefi * quarters (heat v) ≤ 1000 * card .trefi * 16 = mul-le-mul-left (1000 * card .trefi) (quarters-le (heat v)) in
+    omega (arith, div-le-self (1000 * card .trefi * quarters (heat v)) (card .period * 4))
 
 module _ (card : Card) (short : card .trefi < 2 ^ 32) where
   pub interval-fits : (v n i : ℕ) → i ≡ intervalAt (cardOf card) v → n < 2 ^ 32 → n + i < 2 ^ 64

@@ -26,7 +26,7 @@ beatAs b = record { next = b .next; span = b .span }
 -- what the closed forms ask of a beat, whatever its next due: some span, in fewer bits than it is stored in
 pub record Spaced (b : paper.Beat) : Type 0 where
   pub some : 0 < b .span
-  pub small : b .span < 2 ^ 36
+  pub small : b .span < 2 ^ 46
 
 -- the dues of a card at a pace
 pub record Paced (card : Card) (p : lent.Pace) (r : Beat) : Type 0 where
@@ -64,13 +64,13 @@ idleTo x b n owed since j = outcome (idle 8 (steady b) (subℕ owed 8) n j) (fir
 pub record OverArgs (b : paper.Beat) (owed : ℕ) : Type 0 where
   pub spaced : Spaced b
   pub low : owed ≤ 16
-  pub next : b .next < 2 ^ 40
+  pub next : b .next < 2 ^ 50
 
 -- the first number that fails, in fewer bits than it is stored in, and its rule
 pub record FirstAs (b : paper.Beat) (n owed since : ℕ) (r : First) : Type 0 where
   pub rule-is : r .rule ≡ cond (leb (overAt b n owed) (lateAt (b .span) n since)) 19 20
   pub number-is : r .number ≡ closedAt b n owed since
-  pub small : r .number < 2 ^ 40
+  pub small : r .number < 2 ^ 50
 
 -- what the closed form asks
 pub record IdleArgs (b : paper.Beat) (n owed to : ℕ) : Type 0 where

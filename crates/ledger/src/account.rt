@@ -55,7 +55,7 @@ fn over_at(beat: Beat, n: u32, owed: u8) -> u64
 
 // The first number after n at which 20 fails.
 fn late_at(span: u64, n: u32, since: u32) -> u64
-    requires { ⌜ span < 2 ^ 36 ⌝ }
+    requires { ⌜ span < 2 ^ 46 ⌝ }
     ensures { λ r. ⌜ r ≡ lateAt span n since ⌝ }
 {
     greater(n as u64 + 1, since as u64 + 9 * span + 1)

@@ -26,7 +26,7 @@ module _ (room : ℕ) (st : State) (have : ℕ) (buf : List ℕ) {old new : List
   pub used-there : r .used ≤ have
   used-there = omega (arith, p .used, used-fits true room st (take have buf), length-take-le have buf h)
 
-  pub more-short : r .what ≡ More → have - r .used < 10
+  pub more-short : r .what ≡ More → have - r .used < 11
   more-short e =
       let l = left-short true room st (take have buf) (sym (p .what) ∙ e) in
       omega (arith, p .used, l, length-drop (heardOf true room st (take have buf) .used) (take have buf), length-take-le have buf h)

@@ -46,7 +46,7 @@ fn tell(out: &mut [u8], wrote: usize, verdict: Verdict) -> Batch
 
 // One trace.
 fn turn(buf: &mut [u8], out: &mut [u8], wrote: usize) -> Batch
-    requires { ⌜ (10 ≤ length (now buf)) × (wrote + 64 ≤ length (now out)) ⌝ }
+    requires { ⌜ (11 ≤ length (now buf)) × (wrote + 64 ≤ length (now out)) ⌝ }
     ensures { λ r. ⌜ r .wrote + 64 ≤ length (now (out .exit)) ⌝ }
 {
     let next = traces::judge_next(buf);

@@ -75,7 +75,7 @@ fn shift(buf: &mut [u8], from: usize, to: usize) -> usize
 
 // The first bytes of the buffer, judged. Once the verdict is known the rest of the trace is passed over.
 fn judge_some(state: State, buf: &mut [u8], have: usize, left: usize) -> Half
-    requires { ⌜ (have ≤ length (now buf)) × (10 ≤ length (now buf)) ⌝ }
+    requires { ⌜ (have ≤ length (now buf)) × (11 ≤ length (now buf)) ⌝ }
     ensures { λ r. ⌜ (r .have < length (now (buf .exit))) × (r .left ≡ left) ⌝ }
 {
     let mut nothing: [u8; 0] = [0; 0];
@@ -92,7 +92,7 @@ fn judge_some(state: State, buf: &mut [u8], have: usize, left: usize) -> Half
 
 // The bytes that are held; none are looked at behind a verdict.
 fn judge_on(at: Half, buf: &mut [u8], have: usize, left: usize) -> Half
-    requires { ⌜ (have ≤ length (now buf)) × (10 ≤ length (now buf)) ⌝ }
+    requires { ⌜ (have ≤ length (now buf)) × (11 ≤ length (now buf)) ⌝ }
     ensures { λ r. ⌜ (r .have < length (now (buf .exit))) × (r .left ≡ left) ⌝ }
 {
     let what = at.what;
@@ -106,7 +106,7 @@ fn judge_on(at: Half, buf: &mut [u8], have: usize, left: usize) -> Half
 
 // One read, and what it makes of the trace.
 fn turn(at: Half, buf: &mut [u8]) -> Half
-    requires { ⌜ (at .have < length (now buf)) × (10 ≤ length (now buf)) × (0 < at .left) ⌝ }
+    requires { ⌜ (at .have < length (now buf)) × (11 ≤ length (now buf)) × (0 < at .left) ⌝ }
     ensures { λ r. ⌜ (r .have < length (now (buf .exit))) × (r .left < at .left) ⌝ }
 {
     let have = at.have;
@@ -132,7 +132,7 @@ fn verdict_of(at: Half, buf: &[u8]) -> Verdict
 }
 
 fn judge_one(buf: &mut [u8], size: usize) -> Next
-    requires { ⌜ 10 ≤ length (now buf) ⌝ }
+    requires { ⌜ 11 ≤ length (now buf) ⌝ }
 {
     let mut at = gone_on(What::More, chunks::start(), 0, size);
     while at.left > 0 {
@@ -145,7 +145,7 @@ fn judge_one(buf: &mut [u8], size: usize) -> Next
 }
 
 pub fn judge_next(buf: &mut [u8]) -> Next
-    requires { ⌜ 10 ≤ length (now buf) ⌝ }
+    requires { ⌜ 11 ≤ length (now buf) ⌝ }
 {
     let length = input::length_of_next();
     match length {

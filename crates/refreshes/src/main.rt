@@ -1,7 +1,8 @@
-// The refresh cases of document 01, refusals, sleeps, temperatures, and moves over all 2^32 cycles. A line each: the refusal's number, rule and cycle, then
+// The refresh cases of document 01, refusals, sleeps, temperatures, periods, and moves over all 2^32 cycles. A line each: the refusal's number, rule and cycle, then
 // the ledger's cycle, number with 8 added, where the gap counts from, cycles not counted, and level. A line of two numbers is a pace, its next due and MR4,
 // and a line of one a deadline. The file stdout is worked out by expected.py, due by due.
 ghost use Prim.Native.Nat.{_+_, _≤_, _<_, _^_};
+use card::Femtoseconds;
 use ledger::Ledger;
 use pins::Level;
 use pins::Move;
@@ -12,6 +13,7 @@ use show::moves;
 use show::refreshed;
 use show::stands;
 
+mod periods;
 mod show;
 mod sleeps;
 mod temperatures;
@@ -67,7 +69,8 @@ fn refusals() {
     enters(stands(5, 255, 0), 9, true, Move::Stays);
     enters(stands(5, 8, 5), 4, true, Move::Stays);
     let mut bad = card::bench();
-    bad.period = 0;
+    let none = Femtoseconds(0);
+    bad.period = none;
     show::show(ledger::moved(stands(0, 8, 0), show::first(), bad, 1));
     show::show(ledger::entered(
         stands(0, 8, 0),
@@ -114,6 +117,7 @@ fn main() {
     refusals();
     sleeps::all();
     temperatures::all();
+    periods::all();
     moves(stands(0, 8, 0), 4294967295);
     moves(stands(4294939215, 8, 4294939215), 4294967295);
     moves(stands(4294967295, 16, 0), 4294967295);

@@ -12,6 +12,7 @@ use crate::show::show_number;
 use crate::show::show_pace;
 use crate::show::stands;
 use card::Card;
+use card::Femtoseconds;
 use ledger::Effect;
 use ledger::Ledger;
 use ledger::Pace;
@@ -148,7 +149,8 @@ fn deadlines() {
 // A quarter of tREFI is less than a period: one cycle.
 fn each_cycle() {
     let mut slow = card::bench();
-    slow.period = 100000;
+    let period = Femtoseconds(100000000);
+    slow.period = period;
     slow.trefi = 100000;
     show_pace(ledger::first_pace(slow));
     let pace = show_pace(ledger::respaced(lent_pace(100, 3), slow, 4, 5));
@@ -167,7 +169,8 @@ fn spaced(card: Card, next: u64, n: u32) {
 
 fn odd_cards() {
     let mut odd = card::bench();
-    odd.period = 1;
+    let period = Femtoseconds(1);
+    odd.period = period;
     odd.trefi = 4294967295;
     show_pace(ledger::first_pace(odd));
     spaced(odd, 0, 0);

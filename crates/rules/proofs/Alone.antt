@@ -7,10 +7,10 @@ use mathlib.Core.Option.{Option, none}
 use lib.Dec.{eqb}
 use lib.ListN.{length, take}
 use Rattle.rules.specs.Card.{Card}
-use Rattle.rules.specs.Units.{Delays, delaysOf}
+use Rattle.rules.specs.Units.{Delays}
 use Rattle.rules.specs.Commands.{Command, kindOf, apOf}
-use Rattle.rules.specs.Registers.{mr2Good, Modes}
-use Rattle.rules.specs.Ranges.{periodGood, groupsGood, trefiGood, timingGood}
+use Rattle.rules.specs.Registers.{Modes}
+use Rattle.rules.specs.Ranges.{groupsGood, timingGood}
 use Rattle.rules.specs.Whose.{sole}
 use Rattle.rules.specs.Levels.{Move, Read, readPins}
 use Rattle.rules.specs.Past.{Taken, Past, levelAt, counterAt, bankAt, isOpen, countedStamps, commandCount}
@@ -19,11 +19,12 @@ use Rattle.rules.specs.Folds.{firstOf, Rule, firstBroken}
 use Rattle.rules.specs.Delays.{Asked, Answers, Lookup, lookBoth, find}
 use Rattle.rules.specs.Account.{lpddr3, ledgerOn, failingIn, firstIn}
 use Rattle.rules.specs.Entries.{Entry, recordedAs, moveOf, judgedAs}
-use Rattle.rules.specs.Checks.{Refusal, unless, named, isWrong, isReserved, isBarred, valueGood, above, notBelow}
-use Rattle.rules.specs.Form.{Field, Group, _upTo_, Listed, _of_, number, numberAt, timingOf}
+use Rattle.rules.specs.Checks.{Refusal, unless, named, isWrong, isReserved, isBarred, above, notBelow}
+use Rattle.rules.specs.Form.{Field, Group, _upTo_, Listed, _of_, isListed, number, numberAt, timingOf}
 use Rattle.rules.specs.File.{FileVerdict, accepted}
 use Rattle.rules.specs.Lines.{decimal, nameOf, showsBank, verdictLine}
 use Rattle.rules.proofs.Walks.{Judge, two, judgedBy}
+use Rattle.rules.proofs.Coarse.{coarseDelaysOf, coarseValueGood, coarsePeriodGood, coarseMr2Good, coarseTrefiGood}
 use Rattle.rules.proofs.Timed.{timedRules, comeIn}
 use Rattle.rules.proofs.Mild.{pinsOf, mildBook, mildTrace}
 
@@ -56,8 +57,8 @@ aloneEntry card past e =
     unless (not (isReserved r)) 7 ∷
     unless (stateGood (λ b. isOpen b past) (counterAt past) c) 8 ∷
     unless (not (isBarred r)) 16 ∷
-    unless (valueGood card c) 9 ∷
-    named 10 (firstBroken (aloneLook card past) (aloneRules (delaysOf card) c (moveOf r) (counterAt past)) t) ∷
+    unless (coarseValueGood card c) 9 ∷
+    named 10 (firstBroken (aloneLook card past) (aloneRules (coarseDelaysOf card) c (moveOf r) (counterAt past)) t) ∷
     named 11 (failingIn lpddr3 (mildBook card (aloneTaken card past e ∷ past) ∷ []) t) ∷ []
     )
 
@@ -83,15 +84,17 @@ unfoldable pub aloneGood : List Field → Field → Bool
 aloneGood fs f =
     let t = f .tag in
     let x = number (f .value) in
-    cond (eqb t 1) (periodGood x)
-    (cond (eqb t 2) (mr2Good (numberAt 1 fs) x)
+    cond (eqb t 1) (coarsePeriodGood x)
+    (cond (eqb t 2) (coarseMr2Good (numberAt 1 fs) x)
     (cond (eqb t 3) (groupsGood x)
-    (cond (eqb t 4) (trefiGood (numberAt 1 fs) x) (timingGood (timingOf (f .value))))))
+    (cond (eqb t 4) (coarseTrefiGood (numberAt 1 fs) x) (timingGood (timingOf (f .value))))))
 
 unfoldable pub alone : Judge
 alone = record {
   come = comeIn mildTrace aloneGroups;
   wrong = two;
+  size = isListed aloneLengths;
+  good = aloneGood;
   entry = aloneEntry;
   taken = aloneTaken;
   end = aloneEnd;

@@ -9,7 +9,7 @@ use lib.ListN.{length, take}
 use lib.Signed.{leZ}
 use Rattle.rules.specs.Lists.{isOneOf}
 use Rattle.rules.specs.Card.{Card}
-use Rattle.rules.specs.Units.{Delays, interval, delaysOf}
+use Rattle.rules.specs.Units.{Delays}
 use Rattle.rules.specs.Commands.{Command}
 use Rattle.rules.specs.Registers.{Modes}
 use Rattle.rules.specs.Pins.{decode}
@@ -21,13 +21,14 @@ use Rattle.rules.specs.Folds.{orElse, firstOf, Rule, firstBroken}
 use Rattle.rules.specs.Delays.{Asked}
 use Rattle.rules.specs.Account.{Terms, lpddr3, isDue, takeOne, lastCounted}
 use Rattle.rules.specs.Entries.{Entry, commandOf}
-use Rattle.rules.specs.Checks.{Refusal, unless, named, isWrong, isReserved, valueGood, above, notBelow}
-use Rattle.rules.specs.Form.{Field, lastTag}
+use Rattle.rules.specs.Checks.{Refusal, unless, named, isWrong, isReserved, above, notBelow}
+use Rattle.rules.specs.Form.{Field, lastTag, isListed}
 use Rattle.rules.specs.File.{FileVerdict, accepted}
 use Rattle.rules.specs.Lines.{verdictLine}
 use Rattle.rules.proofs.Walks.{Judge, two, judgedBy}
+use Rattle.rules.proofs.Coarse.{coarseInterval, coarseDelaysOf, coarseValueGood}
 use Rattle.rules.proofs.Mild.{pinsOf}
-use Rattle.rules.proofs.Alone.{aloneLook, aloneRules, aloneLines}
+use Rattle.rules.proofs.Alone.{aloneLook, aloneRules, aloneLengths, aloneGood, aloneLines}
 
 -- ---- the account, cycle by cycle: each is counted, and a refresh is due at every positive multiple of I
 unfoldable pub baseCycle : ℕ → (I : ℕ) → (counted : Bool) → (t : ℕ) → ℤ → ℤ
@@ -67,24 +68,24 @@ baseEntry card past e =
     let t = e .stamp in
     firstOf (
     unless (above past t) 5 ∷
-    named 11 (baseFirst lpddr3 (interval card) (countedStamps past) t) ∷
+    named 11 (baseFirst lpddr3 (coarseInterval card) (countedStamps past) t) ∷
     unless (not (isWrong (plain d))) 6 ∷
     unless (not (isReserved (plain d))) 7 ∷
     unless (stateGood (λ b. isOpen b past) (counterAt past) c) 8 ∷
-    unless (valueGood card c) 9 ∷
-    named 10 (firstBroken (aloneLook card past) (baseRules (delaysOf card) c (counterAt past)) t) ∷
-    named 11 (baseFailing lpddr3 (interval card) (countedStamps (baseTaken e ∷ past)) t) ∷ []
+    unless (coarseValueGood card c) 9 ∷
+    named 10 (firstBroken (aloneLook card past) (baseRules (coarseDelaysOf card) c (counterAt past)) t) ∷
+    named 11 (baseFailing lpddr3 (coarseInterval card) (countedStamps (baseTaken e ∷ past)) t) ∷ []
     )
 
 unfoldable pub baseEnd : Card → Past → ℕ → Option Refusal
 baseEnd card past end =
-    firstOf (unless (notBelow past end) 5 ∷ named 11 (baseFirst lpddr3 (interval card) (countedStamps past) (suc end)) ∷ [])
+    firstOf (unless (notBelow past end) 5 ∷ named 11 (baseFirst lpddr3 (coarseInterval card) (countedStamps past) (suc end)) ∷ [])
 
 unfoldable pub baseVerdict : Card → Past → ℕ → FileVerdict
 baseVerdict card past end =
-    accepted (commandCount past) (length (countedStamps past)) (baseLedger (lpddr3 .credit) (interval card) (countedStamps past) end ∷ [])
+    accepted (commandCount past) (length (countedStamps past)) (baseLedger (lpddr3 .credit) (coarseInterval card) (countedStamps past) end ∷ [])
 
--- ---- the card is tags 1 to 18, and behind it come entries and the end
+-- ---- the card is tags 1 to 18, and behind it come entries and the end; their lengths and ranges are as the next judge had them
 unfoldable pub baseCome : List Field → ℕ → Bool
 baseCome fs tag = cond (eqb (lastTag fs) 18) (eqb tag 32 || eqb tag 33) (eqb tag (suc (lastTag fs)))
 
@@ -92,6 +93,8 @@ unfoldable pub base : Judge
 base = record {
   come = λ entries. baseCome;
   wrong = two;
+  size = isListed aloneLengths;
+  good = aloneGood;
   entry = baseEntry;
   taken = λ card past. baseTaken;
   end = baseEnd;

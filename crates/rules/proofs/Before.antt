@@ -1,6 +1,6 @@
 -- A file that does not use low clock-enable has the verdict and the lines that document 01's judge gave it: every file had, just before request Nine, unless
 -- tag 19 stands behind its card, where that judge refused it by 2. By `Untagged` every file had just before request Three, unless tag 19, 23, 25, 26 or 34 stands
--- so or an entry that was taken writes MA 1; and by `Retold` it has still, where that judge's verdict was no 2.
+-- so or an entry that was taken writes MA 1; and by `Unrefined` and `Retold` it has still, without an 8-byte period and where that judge's verdict was no 2.
 use Prim.Native.Nat.{ℕ, zero, suc, _+_, _-_, _≤_, _<_}
 use mathlib.Core.Path.{_≡_, refl, ap, sym, _∙_, subst, fun-ext}
 use mathlib.Core.Logic.{_⊎_, ⊎-elim}
@@ -14,7 +14,7 @@ use lib.ListN.{take, drop, take-append-drop}
 use borrow.Author.Tests.{eqb-true, ne-eqb}
 use Rattle.rules.specs.Lists.{all, when, Every}
 use Rattle.rules.specs.Card.{Card}
-use Rattle.rules.specs.Units.{Delays, interval, delaysOf}
+use Rattle.rules.specs.Units.{Delays}
 use Rattle.rules.specs.Commands.{NOP, REFPB, REFAB, Command, is}
 use Rattle.rules.specs.Registers.{Modes}
 use Rattle.rules.specs.Pins.{decode}
@@ -34,14 +34,16 @@ use Rattle.rules.proofs.Tests.{eq-cases, _&_}
 use Rattle.rules.proofs.Biased.{numbered}
 use Rattle.rules.proofs.Clocks.{Counting, counted-all}
 use Rattle.rules.proofs.Decided.{failing-one, first-one}
-use Rattle.rules.proofs.Walks.{judgedBy, Met, TagTests, tests-as, still-comes, Alike, agree, behind-it}
-use Rattle.rules.proofs.Retold.{curt, same-by}
+use Rattle.rules.proofs.Walks.{judgedBy, AllSized, Met, TagTests, tests-as, still-comes, Alike, agree, behind-it}
+use Rattle.rules.proofs.Retold.{same-by}
+use Rattle.rules.proofs.Coarse.{coarseInterval, coarseDelaysOf, coarseCurt}
+use Rattle.rules.proofs.Unrefined.{Unrefined, same-curt}
 use Rattle.rules.proofs.Timed.{timedRules, comeIn}
 use Rattle.rules.proofs.Unprogrammed.{Written, come-more, Tag23, Programmed}
 use Rattle.rules.proofs.Mild.{pinsOf, mildBook, mildTrace}
 use Rattle.rules.proofs.Unheated.{card-low, Heated}
 use Rattle.rules.proofs.Alone.{aloneRead, aloneTaken, aloneLook, aloneRules, aloneEntry, aloneEnd, aloneVerdict, aloneGroups, alone, aloneLines}
-use Rattle.rules.proofs.Untagged.{quiet-tail, alone-comes, Paired, alone-ever, alone-lines}
+use Rattle.rules.proofs.Untagged.{alone-listed, alone-ranged, quiet-tail, alone-comes, Paired, alone-ever, alone-lines}
 use Rattle.rules.proofs.Base.{baseCycle, baseBefore, baseLedger, baseFailing, baseFirst, baseTaken, baseRules, baseEntry, baseEnd, baseVerdict, baseCome, base, judgeBase, linesBase}
 
 -- ---- the account
@@ -90,10 +92,10 @@ map-id : (f : ℕ → ℕ) → ((n : ℕ) → f n ≡ n) → (l : List ℕ) → 
 map-id f h [] = refl
 map-id f h (x ∷ l) = rw (h x, map-id f h l)
 
-still-book : (card : Card) (past : Past) → Still past → mildBook card past ≡ straight (interval card) (countedStamps past)
+still-book : (card : Card) (past : Past) → Still past → mildBook card past ≡ straight (coarseInterval card) (countedStamps past)
 unfolding mildBook
 still-book card past s = λ i. record {
-  schedule = steady (every (interval card));
+  schedule = steady (every (coarseInterval card));
   clock = fun-ext {f = clock past} {g = λ t. t} (still-clock past s) i;
   refreshes = map-id (clock past) (still-clock past s) (countedStamps past) i;
 }
@@ -155,22 +157,22 @@ module _ (card : Card) (still : card .sleeps ≡ false) (past : Past) (s : Still
         same-taken e,
         still-book card past s,
         still-book card (baseTaken e ∷ past) (still-next e),
-        first-one lpddr3 (straight (interval card) (countedStamps past)) (e .stamp),
-        failing-one lpddr3 (straight (interval card) (countedStamps (baseTaken e ∷ past))) (e .stamp),
-        first-is lpddr3 (interval card) (countedStamps past) (e .stamp),
-        failing-is lpddr3 (interval card) (countedStamps (baseTaken e ∷ past)) (e .stamp),
+        first-one lpddr3 (straight (coarseInterval card) (countedStamps past)) (e .stamp),
+        failing-one lpddr3 (straight (coarseInterval card) (countedStamps (baseTaken e ∷ past))) (e .stamp),
+        first-is lpddr3 (coarseInterval card) (countedStamps past) (e .stamp),
+        failing-is lpddr3 (coarseInterval card) (countedStamps (baseTaken e ∷ past)) (e .stamp),
         read-plain e,
       )
       (unfold judgedAs moveOf isBarred unless firstOf orElse in
-      rw (same-rules (delaysOf card) (commandOf (decode (pinsOf e))) (counterAt past) (e .stamp)))
+      rw (same-rules (coarseDelaysOf card) (commandOf (decode (pinsOf e))) (counterAt past) (e .stamp)))
 
   same-end : (end : ℕ) → aloneEnd card past end ≡ baseEnd card past end
   unfolding aloneEnd baseEnd
-  same-end end = rw (still-book card past s, first-one lpddr3 (straight (interval card) (countedStamps past)) (suc end), first-is lpddr3 (interval card) (countedStamps past) (suc end))
+  same-end end = rw (still-book card past s, first-one lpddr3 (straight (coarseInterval card) (countedStamps past)) (suc end), first-is lpddr3 (coarseInterval card) (countedStamps past) (suc end))
 
   same-verdict : (end : ℕ) → aloneVerdict card past end ≡ baseVerdict card past end
   unfolding aloneVerdict baseVerdict baseLedger
-  same-verdict end = rw (still-book card past s) (unfold ledgerOn ledgerAfter in rw (ledger-is (lpddr3 .credit) (interval card) (countedStamps past) (suc end)))
+  same-verdict end = rw (still-book card past s) (unfold ledgerOn ledgerAfter in rw (ledger-is (lpddr3 .credit) (coarseInterval card) (countedStamps past) (suc end)))
 
 -- ---- a file
 -- tag 19 behind tag 18, before the first entry
@@ -214,12 +216,16 @@ record Also (fs : List Field) (past : Past) : Type 0 where
   without : has 19 fs ≡ false
   still : Still past
 
-alike : (fs : List Field) (past : Past) → CardRight fs → Also fs past → Alike alone base Tag19 Also fs past
+alike : (fs : List Field) (past : Past) → CardRight fs → AllSized (base .size) fs → Also fs past → Alike alone base Tag19 Also fs past
 unfolding alone base
-alike fs past r q = record {
+alike fs past r z q = record {
   tag = tag-as-before (begun past) fs (q .low);
-  known = λ t m. alone-comes (begun past) fs (omega (arith, q .low)) t (still-comes (tag-as-before (begun past) fs (q .low) t) m);
+  known = λ t m. alone-comes (begun past) fs (omega (arith, q .low)) t (known-then t m);
   wrong = λ t. refl;
+  size = λ t l m. refl;
+  listed = λ t l m. alone-listed (begun past) fs (omega (arith, q .low)) t l (known-then t m);
+  good = λ f m o. refl;
+  ranged = λ f m o. alone-ranged (begun past) fs (omega (arith, q .low)) z f (known-then (f .tag) m);
   card = λ f b m o. let l = small f m o in record { low = unfold lastTag in l; without = unfold has in rw (ne-eqb (f .tag) 19 (λ e. omega (arith, e, l))) (q .without); still = q .still };
   entry = λ f n. same-entry (cardOf fs) awake-card past (q .still) (entryOf f);
   taken = λ f n. same-taken (cardOf fs) awake-card past (q .still) (entryOf f);
@@ -228,6 +234,9 @@ alike fs past r q = record {
   verdict = λ w t n. same-verdict (cardOf fs) awake-card past (q .still) t;
 }
   where
+    known-then : (t : ℕ) → baseCome fs t ≡ true → comeIn mildTrace aloneGroups (begun past) fs t ≡ true
+    known-then t = still-comes (tag-as-before (begun past) fs (q .low) t)
+
     awake-card : cardOf fs .sleeps ≡ false
     awake-card = unfold cardOf in q .without
 
@@ -241,20 +250,20 @@ module _ (bytes : List ℕ) where
   as-before = agree alone base Tag19 Also alike bytes (record { low = unfold lastTag in omega arith; without = unfold has in refl; still = unfold Still in tt })
 
   -- and just before request Three they were still, or tag 19, 23, 25, 26 or 34 stands so, or an entry that was taken writes MA 1
-  pub as-ever : (judgedBy curt bytes ≡ judgedBy base bytes)
+  pub as-ever : (judgedBy coarseCurt bytes ≡ judgedBy base bytes)
       ⊎ (Tagged bytes (judgedBy base bytes) ⊎ (Paired bytes (judgedBy base bytes) ⊎ (Heated bytes (judgedBy base bytes) ⊎ Programmed bytes (judgedBy base bytes))))
   as-ever = behind-it (λ j. Paired bytes j ⊎ (Heated bytes j ⊎ Programmed bytes j)) as-before (alone-ever bytes)
 
   -- so where that judge's verdict is no wrong tag, and no entry that it took writes MA 1, verdict and lines are as they were
-  module _ (right : (at : ℕ) → judgeBase bytes ≡ refused 2 0 at 0 → ⊥) (unwritten : Written (judgedBy base bytes .past) → ⊥) where
+  module _ (unrefined : Unrefined bytes) (right : (at : ℕ) → judgeBase bytes ≡ refused 2 0 at 0 → ⊥) (unwritten : Written (judgedBy base bytes .past) → ⊥) where
     wrong : {A : Type 0} (j : Judged) → judgedBy base bytes ≡ j → (at : ℕ) → j .verdict ≡ refused 2 0 at 0 → A
     wrong j e at v = absurd (right at (unfold judgeBase in ap (λ (j : Judged). j .verdict) e ∙ v))
 
     then : judgedBy alone bytes ≡ judgedBy base bytes
     then = ⊎-elim (λ (e : judgedBy alone bytes ≡ judgedBy base bytes). e) (λ (t : Tagged bytes (judgedBy base bytes)). wrong _ refl _ (t .verdict)) as-before
 
-    later : judgedBy curt bytes ≡ judgedBy alone bytes
-    later = ⊎-elim (λ (e : judgedBy curt bytes ≡ judgedBy alone bytes). e)
+    later : judgedBy coarseCurt bytes ≡ judgedBy alone bytes
+    later = ⊎-elim (λ (e : judgedBy coarseCurt bytes ≡ judgedBy alone bytes). e)
         (⊎-elim
         (λ (p : Paired bytes (judgedBy alone bytes)). wrong _ (sym then) _ (p .verdict))
         (⊎-elim
@@ -266,7 +275,7 @@ module _ (bytes : List ℕ) where
 
     now : judged bytes ≡ judgedBy base bytes
     unfolding judgeBase
-    now = same-by bytes (judgedBy base bytes) (later ∙ then) (unfold judgeBase in right)
+    now = same-by bytes (judgedBy base bytes) (same-curt bytes unrefined ∙ later ∙ then) (unfold judgeBase in right)
 
     pub verdict-as-before : judgeFile bytes ≡ judgeBase bytes
     unfolding judgeFile judgeBase

@@ -10,7 +10,8 @@ use lib.Dec.{lit<}
 use borrow.Author.Tests.{le-leb}
 use lib.ListN.{length}
 use Rattle.rules.specs.Entries.{pins, entry}
-use Rattle.rules.specs.Form.{numberFrom, number, Field, cardWhole, ofEntry, ofTrace, mayFollow, mayCome, lengths, _of_, isListed, lengthGood, whole, valued, sized, headOf, bodyOf, entryOf}
+use Rattle.rules.specs.Lists.{isOneOf}
+use Rattle.rules.specs.Form.{numberFrom, number, Field, cardWhole, ofEntry, ofTrace, mayFollow, mayCome, lengths, _of_, _of_or_, isListed, lengthGood, whole, valued, sized, headOf, bodyOf, entryOf}
 use Rattle.rules.specs.Writer.{bigEndian, fieldBytes, entryBytes}
 
 pow-positive : (w : ℕ) → 0 < 256 ^ w
@@ -36,7 +37,7 @@ unfoldable pub entryField : (stamp p : ℕ) → Field
 entryField stamp p = record { tag = 32; high = 0; low = 7; value = bigEndian 4 stamp ++ bigEndian 3 p }
 
 pub entry-head : (b : Bool) (fs : List Field) (stamp p : ℕ) (rest : List ℕ) → cardWhole fs ≡ true → headOf b fs (entryBytes stamp p ++ rest) ≡ whole (entryField stamp p) rest
-unfolding headOf sized valued cardWhole mayCome mayFollow ofTrace ofEntry lengthGood isListed lengths _of_ entryBytes fieldBytes bigEndian entryField
+unfolding headOf sized valued cardWhole mayCome mayFollow ofTrace ofEntry lengthGood isListed isOneOf lengths _of_ _of_or_ entryBytes fieldBytes bigEndian entryField
 entry-head b fs stamp p rest h = rw (h, le-leb 7 (length ((bigEndian 4 stamp ++ bigEndian 3 p) ++ rest)) (omega arith))
 
 pub entry-read : (stamp p : ℕ) → stamp < 256 ^ 4 → p < 256 ^ 3 → entryOf (entryField stamp p) ≡ entry stamp p

@@ -10,7 +10,7 @@ use lib.Dec.{leb, eqb}
 use borrow.Author.Tests.{ne-eqb, not-true}
 use Rattle.rules.specs.Lists.{all}
 use Rattle.rules.specs.Ranges.{timingGood, startGood, mr1Start, raiseGood, timings, sleepTimings, cardGood}
-use Rattle.rules.specs.Form.{Field, number, numberFrom, lastTag, cardWhole, valueOf, has, numberAt, numberIf, timingOf, timingAt, cardOf, gapGood, fieldGood}
+use Rattle.rules.specs.Form.{Field, number, numberFrom, lastTag, cardWhole, valueOf, has, numberAt, periodAt, numberIf, timingOf, timingAt, cardOf, gapGood, fieldGood}
 use Rattle.rules.specs.FileReading.{CardRight}
 use Rattle.rules.proofs.Tests.{eq-cases, both-true}
 use Rattle.rules.proofs.CardGood.{parts-good}
@@ -22,7 +22,7 @@ tagged t v = record { tag = t; high = 0; low = 0; value = v }
 
 -- a newer field leaves the test of tag t as it was: a test that reads the period comes behind it, and the gap's behind tag 19
 in-front : (g : Field) (fs : List Field) (t : ℕ) (v : List ℕ) → 1 ≤ t → t ≤ g .tag → fieldGood (g ∷ fs) (tagged t v) ≡ fieldGood fs (tagged t v)
-unfolding fieldGood numberAt valueOf tagged gapGood has
+unfolding fieldGood periodAt valueOf tagged gapGood has
 in-front g fs t v low le = ⊎-elim
     (λ (p : (t ≡ 1) × (eqb t 1 ≡ true)). rw (p .0))
     (λ (p : (t ≡ 1 → ⊥) × (eqb t 1 ≡ false)). ⊎-elim
@@ -153,7 +153,7 @@ module _ (fs : List Field) (r : CardRight fs) (w : cardWhole fs ≡ true) where
       go false g = refl
 
   pub card-good : cardGood (cardOf fs) ≡ true
-  unfolding cardOf timings sleepTimings tagsFrom fieldGood tagged numberAt
+  unfolding cardOf timings sleepTimings tagsFrom fieldGood tagged numberAt periodAt
   card-good = parts-good (cardOf fs) (record {
     period = good-at 1 (omega arith) (omega arith);
     mr2 = good-at 2 (omega arith) (omega arith);

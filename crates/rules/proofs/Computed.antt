@@ -20,7 +20,7 @@ use Rattle.rules.specs.Clock.{clock, beatBy, beatAt, bookOf, booksOf}
 use Rattle.rules.specs.Checks.{Refusal, unless, named, checks, above, notBelow, entryChecks, endChecks, entryRefusal, endRefusal}
 use Rattle.rules.specs.Verdict.{refreshCount, ledgersAt}
 use Rattle.rules.specs.Reading.{Above, NotBelow}
-use Rattle.rules.specs.Form.{Field, mayCome, wrongTag, cardOf, entryOf}
+use Rattle.rules.specs.Form.{Field, mayCome, wrongTag, lengthGood, cardOf, fieldGood, entryOf}
 use Rattle.rules.specs.File.{accepted, begun, Judged, judged}
 use Rattle.rules.specs.FileReading.{CardRight}
 use Rattle.rules.specs.Lent.{Ledger, numberOf, Lent, hasPart, owingGood, isThere, Effect, noEffect, refreshedAt, sensedAt, atLevel, failingOf, ledgerAt, standsAt, freshShare, fresh, AllTaken}
@@ -36,7 +36,7 @@ use Rattle.rules.proofs.Owings.{number-at, failing-at, moved-on, failin
 use Rattle.rules.proofs.Taken.{passed, below-last, unmoved, rising, orderly, above-part, paid-through, paid-to-last, owing-good}
 use Rattle.rules.proofs.StepByList.{last-of-below, fresh-stands, ledger-is}
 use Rattle.rules.proofs.CardRead.{card-good}
-use Rattle.rules.proofs.Walks.{Judge, judgedBy, defined, defined-judged, MetBy, Alike, agree}
+use Rattle.rules.proofs.Walks.{Judge, judgedBy, defined, defined-judged, AllSized, MetBy, Alike, agree}
 
 -- ---- each part's ledger, entry by entry, whosesoever
 -- what an entry does to the ledger of part p, behind the part's own entries
@@ -84,6 +84,8 @@ unfoldable pub computing : Judge
 computing = record {
   come = mayCome;
   wrong = wrongTag;
+  size = lengthGood;
+  good = fieldGood;
   entry = entryFrom;
   taken = takenFor;
   end = endFrom;
@@ -266,12 +268,16 @@ unfolding begun AllTaken
 none-taken card [] b = tt
 none-taken card (e ∷ p) b = let z : _≡_ {A = ℕ} 0 1 = cc in absurd (omega arith)
 
-alike : (fs : List Field) (past : Past) → CardRight fs → Also fs past → Alike computing defined (λ entries fs t. ⊥) Also fs past
+alike : (fs : List Field) (past : Past) → CardRight fs → AllSized (defined .size) fs → Also fs past → Alike computing defined (λ entries fs t. ⊥) Also fs past
 unfolding computing defined
-alike fs past r all = record {
+alike fs past r s all = record {
   tag = λ t. inl refl;
   known = λ t m. m;
   wrong = λ t. refl;
+  size = λ t l m. refl;
+  listed = λ t l m s. s;
+  good = λ f m o. refl;
+  ranged = λ f m o s g. g;
   card = λ f b m o. none-taken (cardOf (f ∷ fs)) past b;
   entry = λ f n. entry-computed (cardOf fs) (card-good fs r (n .whole)) past all (entryOf f);
   taken = λ f n. refl;

@@ -58,6 +58,8 @@ pub mod Walks
 pub mod Computed
 pub mod Starred
 pub mod Retold
+pub mod Coarse
+pub mod Unrefined
 pub mod Timed
 pub mod Unprogrammed
 pub mod Mild

@@ -6,9 +6,7 @@ use mathlib.Core.List.{List, [], _∷_, _++_, map}
 use mathlib.Core.Option.{Option, none}
 use lib.Dec.{eqb}
 use Rattle.rules.specs.Card.{Card}
-use Rattle.rules.specs.Units.{interval, delaysOf}
-use Rattle.rules.specs.Registers.{mr2Good}
-use Rattle.rules.specs.Ranges.{periodGood, groupsGood, trefiGood, timingGood}
+use Rattle.rules.specs.Ranges.{groupsGood, timingGood}
 use Rattle.rules.specs.Whose.{partOf, parts}
 use Rattle.rules.specs.Past.{Taken, Past, ofPart, counterAt, countedStamps, commandCount}
 use Rattle.rules.specs.States.{stateGood}
@@ -16,12 +14,13 @@ use Rattle.rules.specs.Folds.{firstOf, firstBroken}
 use Rattle.rules.specs.Account.{lpddr3, every, steady, Book, ledgerOn, failingIn, firstIn}
 use Rattle.rules.specs.Clock.{clock}
 use Rattle.rules.specs.Entries.{pins, mr4, Entry, entry, whoseOf, viewFor, readFor, recordedAs, moveOf, judgedAs}
-use Rattle.rules.specs.Checks.{Refusal, unless, named, isWrong, isReserved, isBarred, isClash, valueGood, above, notBelow}
+use Rattle.rules.specs.Checks.{Refusal, unless, named, isWrong, isReserved, isBarred, isClash, above, notBelow}
 use Rattle.rules.specs.Verdict.{refreshCount}
-use Rattle.rules.specs.Form.{Field, Group, _upTo_, Listed, _of_, number, numberAt, timingOf, gapGood}
+use Rattle.rules.specs.Form.{Field, Group, _upTo_, Listed, _of_, isListed, number, numberAt, timingOf, gapGood}
 use Rattle.rules.specs.File.{FileVerdict, accepted}
 use Rattle.rules.specs.Lines.{entryLine, verdictLine}
 use Rattle.rules.proofs.Walks.{Judge, two, judgedBy}
+use Rattle.rules.proofs.Coarse.{coarseInterval, coarseDelaysOf, coarseValueGood, coarsePeriodGood, coarseMr2Good, coarseTrefiGood}
 use Rattle.rules.proofs.Timed.{timedRules, comeIn}
 
 -- ---- an entry is a stamp and pins: no field of another body comes
@@ -38,7 +37,7 @@ mildTaken card past e =
 
 -- ---- one interval throughout
 unfoldable pub mildBook : Card → Past → Book
-mildBook card past = record { schedule = steady (every (interval card)); clock = clock past; refreshes = map (clock past) (countedStamps past) }
+mildBook card past = record { schedule = steady (every (coarseInterval card)); clock = clock past; refreshes = map (clock past) (countedStamps past) }
 
 unfoldable pub mildBooks : Card → Past → List Book
 mildBooks card past = map (λ p. mildBook card (ofPart p past)) (parts card)
@@ -57,8 +56,8 @@ mildEntry card past e =
     unless (not (isReserved r)) 7 ∷
     unless (stateGood (v .open?) (v .counter) c) 8 ∷
     unless (not (isBarred r)) 16 ∷
-    unless (valueGood card c) 9 ∷
-    named 10 (firstBroken (v .look) (timedRules (delaysOf card) c (moveOf r) (v .counter)) t) ∷
+    unless (coarseValueGood card c) 9 ∷
+    named 10 (firstBroken (v .look) (timedRules (coarseDelaysOf card) c (moveOf r) (v .counter)) t) ∷
     named 11 (failingIn lpddr3 (mildBooks card (mildTaken card past e ∷ past)) t) ∷ []
     )
 
@@ -87,16 +86,18 @@ unfoldable pub mildGood : List Field → Field → Bool
 mildGood fs f =
     let t = f .tag in
     let x = number (f .value) in
-    cond (eqb t 1) (periodGood x)
-    (cond (eqb t 2) (mr2Good (numberAt 1 fs) x)
+    cond (eqb t 1) (coarsePeriodGood x)
+    (cond (eqb t 2) (coarseMr2Good (numberAt 1 fs) x)
     (cond (eqb t 3) (groupsGood x)
-    (cond (eqb t 4) (trefiGood (numberAt 1 fs) x)
+    (cond (eqb t 4) (coarseTrefiGood (numberAt 1 fs) x)
     (cond (eqb t 25) (gapGood fs x) (timingGood (timingOf (f .value)))))))
 
 unfoldable pub mild : Judge
 mild = record {
   come = comeIn mildTrace mildGroups;
   wrong = two;
+  size = isListed mildLengths;
+  good = mildGood;
   entry = mildEntry;
   taken = mildTaken;
   end = mildEnd;

@@ -1,5 +1,5 @@
--- Document 02, Three: of every file the entries taken and the verdict are those of the judge just before, but that each 2 is now 17, 18 or 19 at the same offset,
--- with cycle 0; and only a 2 became one of these.
+-- Document 02, Three: of every file the entries taken and the verdict are those of the judge without that request, but that each 2 is 17, 18 or 19 at the same
+-- offset, with cycle 0; and only a 2 became one of these.
 use Prim.Native.Nat.{ℕ, zero, suc, _+_, _*_}
 use mathlib.Core.Path.{_≡_, refl, ap, sym, _∙_, subst}
 use mathlib.Core.Logic.{_⊎_, inl, inr}
@@ -15,17 +15,19 @@ use Rattle.rules.specs.Past.{Past}
 use Rattle.rules.specs.Entries.{Entry}
 use Rattle.rules.specs.Folds.{orElse, firstOf}
 use Rattle.rules.specs.Checks.{Refusal, refusal, unless, named, checks, entryChecks, endChecks, entryRefusal, endRefusal}
-use Rattle.rules.specs.Form.{Field, sizeOf, lastTag, ofEntry, mayCome, ofCard, known, passedBy, wrongNumber, wrongAfter, wrongTag, lengthGood, whole, cut, badTag, badLength, valued, sized, cardOf, fieldGood, entryOf, endOf}
-use Rattle.rules.specs.File.{FileVerdict, accepted, refused, Step, goesOn, ends, orRefused, cardStep, closing, begun, Judged, judged, judgeFile}
+use Rattle.rules.specs.Form.{Field, sizeOf, lastTag, ofEntry, mayCome, ofCard, known, passedBy, wrongNumber, wrongAfter, wrongTag, lengthGood, whole, cut, badTag, badLength, valued, cardOf, entryOf, endOf}
+use Rattle.rules.specs.File.{FileVerdict, accepted, refused, Step, goesOn, ends, orRefused, closing, begun, Judged, judged, judgeFile}
 use Rattle.rules.specs.Lines.{entryLines, verdictLine, linesOf}
 use Rattle.rules.proofs.Tests.{_&_}
-use Rattle.rules.proofs.Walks.{Judge, two, defined, headBy, entryBy, endBy, pick, byHeadBy, stepBy, fileBy, judgedBy, behind, by-step, defined-judged}
+use Rattle.rules.proofs.Walks.{Judge, two, defined, sizedBy, headBy, entryBy, endBy, cardBy, pick, byHeadBy, stepBy, fileBy, judgedBy, behind, by-step, defined-judged}
 
--- ---- the judge just before: every tag that may not come is 2
+-- ---- the judge of the definitions, without that request: every tag that may not come is 2
 unfoldable pub curt : Judge
 curt = record {
   come = defined .come;
   wrong = two;
+  size = defined .size;
+  good = defined .good;
   entry = defined .entry;
   taken = defined .taken;
   end = defined .end;
@@ -133,9 +135,9 @@ module _ (fs : List Field) (past : Past) (at : ℕ) where
   turned-closed card t n [] = off (kept refl)
   turned-closed card t n (b ∷ bs) = off (kept-form 12 (inr (inr (inr refl))) n)
 
-  turned-card : (f : Field) (rest : List ℕ) → Turned (cardStep fs past at f rest) (cardStep fs past at f rest)
-  unfolding cardStep
-  turned-card f rest = go (fieldGood fs f)
+  turned-card : (f : Field) (rest : List ℕ) → Turned (cardBy curt fs past at f rest) (cardBy defined fs past at f rest)
+  unfolding cardBy curt
+  turned-card f rest = go (defined .good fs f)
     where
       go : (x : Bool) → let s = cond x (goesOn (f ∷ fs) past (at + sizeOf f) rest) (ends (refused 4 0 at 0)) in Turned s s
       go true = on
@@ -158,8 +160,8 @@ module _ (fs : List Field) (past : Past) (at : ℕ) where
       go true f rest = turned-whole f rest
       go false f rest = unfold byHeadBy in off (kept-form 1 (inl refl) at)
 
-  turned-sized : (t : ℕ) (bs : List ℕ) → Turned (byHeadBy curt fs past at (sized t bs)) (byHeadBy defined fs past at (sized t bs))
-  unfolding sized
+  turned-sized : (t : ℕ) (bs : List ℕ) → Turned (byHeadBy curt fs past at (sizedBy lengthGood t bs)) (byHeadBy defined fs past at (sizedBy lengthGood t bs))
+  unfolding sizedBy
   turned-sized t [] = unfold byHeadBy in off (kept-form 1 (inl refl) at)
   turned-sized t (h ∷ []) = unfold byHeadBy in off (kept-form 1 (inl refl) at)
   turned-sized t (h ∷ l ∷ bs) = go (lengthGood t (256 * h + l))
@@ -183,7 +185,8 @@ turned-step fs past at [] = unfold byHeadBy in off (kept-form 1 (inl refl) at)
 turned-step fs past at (t ∷ bs) = go (mayCome (begun past) fs t)
   where
     go : (x : Bool) →
-        Turned (byHeadBy curt fs past at (cond x (sized t bs) (badTag (two (begun past) fs t)))) (byHeadBy defined fs past at (cond x (sized t bs) (badTag (wrongTag (begun past) fs t))))
+        Turned (byHeadBy curt fs past at (cond x (sizedBy lengthGood t bs) (badTag (two (begun past) fs t))))
+        (byHeadBy defined fs past at (cond x (sizedBy lengthGood t bs) (badTag (wrongTag (begun past) fs t))))
     go true = turned-sized fs past at t bs
     go false = unfold byHeadBy wrongTag wrongAfter refusal in off (told (one-of-three (begun past) (lastTag fs) t))
 
@@ -236,7 +239,7 @@ module _ (bytes : List ℕ) where
       go (kept {v = v} n) h = not-kept v h (inl refl) n
       go (told {k = k} o) h = not-two o cc
 
--- ---- against an older judge that says what the one just before says
+-- ---- against an older judge that says what that one says
 -- the lines are those of then, but for the verdict's, where that was told anew
 pub record LinesRetold (was is : List ℕ) : Type 0 where
   pub front : List ℕ

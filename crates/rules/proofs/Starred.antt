@@ -4,7 +4,7 @@ use mathlib.Core.List.{List, [], _∷_, _++_}
 use lib.ListN.{length}
 use Rattle.rules.specs.Lists.{Every, all, isOneOf, when}
 use Rattle.rules.specs.Bits.{bits, on, bit}
-use Rattle.rules.specs.Units.{roundedUp, n, rowCycle, delaysOf}
+use Rattle.rules.specs.Units.{femto, roundedUp, n, rowCycle, delaysOf}
 use Rattle.rules.specs.Heat.{heat, mr4Good, startMR4, quarters, intervalAt, isHot, longer, hotCard, delaysAt}
 use Rattle.rules.specs.Commands.{code, bare, carries, kindOf, bankOf, apOf, is, banks}
 use Rattle.rules.specs.Pins.{
@@ -153,6 +153,7 @@ use Rattle.rules.specs.Form.{
   wrongAfter,
   wrongTag,
   _of_,
+  _of_or_,
   lengths,
   isListed,
   lengthGood,
@@ -163,6 +164,8 @@ use Rattle.rules.specs.Form.{
   valueOf,
   has,
   numberAt,
+  periodOf,
+  periodAt,
   numberIf,
   timingAt,
   cardOf,
@@ -222,17 +225,20 @@ use Rattle.rules.specs.Bench.{
   _sets_,
   warming,
   ordering,
+  fine,
+  at933,
+  refined,
 }
 use Rattle.rules.proofs.Tests.{_&_}
 use Rattle.rules.proofs.Idle.{owedAt, next19, next20, after20, firstNext}
 use Rattle.rules.proofs.Clocked.{relabel}
 use Rattle.rules.proofs.Closed.{biased, ledgerClosed, failingClosed}
-use Rattle.rules.proofs.Walks.{headBy, entryBy, endBy, byHeadBy, stepBy, fileBy, judgedBy}
+use Rattle.rules.proofs.Walks.{sizedBy, headBy, entryBy, endBy, cardBy, byHeadBy, stepBy, fileBy, judgedBy}
 use Rattle.rules.proofs.Computed.{effectFor, ledgerThen, keptThen, keptOver, failingsFrom, failingsAt, entryFrom, endFrom, owingsFrom, computing, computed, computed-judged}
 
 -- names every definition that a case computes with
 unfoldable pub opened : Unit {0}
-unfolding Every all isOneOf when bits on bit roundedUp n rowCycle delaysOf heat mr4Good startMR4 quarters intervalAt isHot longer hotCard delaysAt code bare carries kindOf bankOf apOf is banks CAr CAf byLevels kindAt run maRuns opRuns bankRuns rowRuns columnRuns gathered scattered listedMA ofKind decode levels enabled encode encodePair row latencies atCode mr2Good rlOf wlOf recovery recoveries atPair nwrBy nwrOf mr1Good mayWrite depth sameLevel stopped isFall isRise risesFrom levelAfter fallBy fall rise readAt readPins seen selected readPair readAs senseAt readMR4 isOf partOf other bySelects whose parts ofPart readBody read readAfter whoseBody whoseOf partIn ownFor othersFor viewFor readFor commandOf recordedAs moveOf mr4Of fallsAs movesAs judgedAs taken takenFor pastWith levelAt writesMA registerAfter register mr2At mr1At modesAt mr4At counterAfter counterAt bankAt opens precharges closes openAfter isOpen isCounted stampsWhere countedStamps commandCount allClosed goes stateGood orElse firstOf latest back permitted permittedBy bound firstBroken latestOf laggingOf fourthOf latestIf latestMove to means unnoted notedOf found find lookBoth turned idleUse precharged without from lagging recovering across rule delayRules lpddr3 every fallen nextAfter respaced takeOne failing earlier earliest beatBy refusal unless named isWrong isReserved isBarred isClash codeGood valueGood viewOf checks above notBelow within periodGood groupsGood trefiGood timingGood startGood raiseGood timings sleepTimings bytesOf sizeOf numberFrom number _upTo_ groups lastTag endsGroup beginsGroup cardWhole ofEntry ofTrace mayFollow mayCome inGroup inGroups ofCard known passedBy wrongNumber expectedAfter wrongAfter wrongTag _of_ lengths isListed lengthGood valued sized headOf timingOf valueOf has numberAt numberIf timingAt cardOf gapGood fieldGood bodyOf entryOf endOf sum refreshCount begun orRefused cardStep closing bigEndian fieldBytes entryBytes digits decimal signed nameOf showsBank shownPart entryLine unlessSensed entryLines ledgerParts verdictLine numberOf isThere noEffect countedTo refreshedAt sensedAt atLevel failingOf freshShare accepts timing onlyIf benchWith benchAt bench sleeper pair heater hotPair tight timingFields startField cardFile bodyBytes entriesFile endFile file _at_ eightRefreshes fourActs starred further _low_ sevenRefreshes sleeping _at₀_ _at₁_ bothOpen paired starts again unhurried programmed _sets_ warming ordering owedAt next19 next20 after20 firstNext relabel biased ledgerClosed failingClosed headBy entryBy endBy byHeadBy stepBy fileBy judgedBy effectFor ledgerThen keptThen keptOver failingsFrom failingsAt entryFrom endFrom owingsFrom computing computed
+unfolding Every all isOneOf when bits on bit femto roundedUp n rowCycle delaysOf heat mr4Good startMR4 quarters intervalAt isHot longer hotCard delaysAt code bare carries kindOf bankOf apOf is banks CAr CAf byLevels kindAt run maRuns opRuns bankRuns rowRuns columnRuns gathered scattered listedMA ofKind decode levels enabled encode encodePair row latencies atCode mr2Good rlOf wlOf recovery recoveries atPair nwrBy nwrOf mr1Good mayWrite depth sameLevel stopped isFall isRise risesFrom levelAfter fallBy fall rise readAt readPins seen selected readPair readAs senseAt readMR4 isOf partOf other bySelects whose parts ofPart readBody read readAfter whoseBody whoseOf partIn ownFor othersFor viewFor readFor commandOf recordedAs moveOf mr4Of fallsAs movesAs judgedAs taken takenFor pastWith levelAt writesMA registerAfter register mr2At mr1At modesAt mr4At counterAfter counterAt bankAt opens precharges closes openAfter isOpen isCounted stampsWhere countedStamps commandCount allClosed goes stateGood orElse firstOf latest back permitted permittedBy bound firstBroken latestOf laggingOf fourthOf latestIf latestMove to means unnoted notedOf found find lookBoth turned idleUse precharged without from lagging recovering across rule delayRules lpddr3 every fallen nextAfter respaced takeOne failing earlier earliest beatBy refusal unless named isWrong isReserved isBarred isClash codeGood valueGood viewOf checks above notBelow within periodGood groupsGood trefiGood timingGood startGood raiseGood timings sleepTimings bytesOf sizeOf numberFrom number _upTo_ groups lastTag endsGroup beginsGroup cardWhole ofEntry ofTrace mayFollow mayCome inGroup inGroups ofCard known passedBy wrongNumber expectedAfter wrongAfter wrongTag _of_ _of_or_ lengths isListed lengthGood valued sized headOf timingOf valueOf has numberAt periodOf periodAt numberIf timingAt cardOf gapGood fieldGood bodyOf entryOf endOf sum refreshCount begun orRefused cardStep closing bigEndian fieldBytes entryBytes digits decimal signed nameOf showsBank shownPart entryLine unlessSensed entryLines ledgerParts verdictLine numberOf isThere noEffect countedTo refreshedAt sensedAt atLevel failingOf freshShare accepts timing onlyIf benchWith benchAt bench sleeper pair heater hotPair tight timingFields startField cardFile bodyBytes entriesFile endFile file _at_ eightRefreshes fourActs starred further _low_ sevenRefreshes sleeping _at₀_ _at₁_ bothOpen paired starts again unhurried programmed _sets_ warming ordering fine at933 refined owedAt next19 next20 after20 firstNext relabel biased ledgerClosed failingClosed sizedBy headBy entryBy endBy cardBy byHeadBy stepBy fileBy judgedBy effectFor ledgerThen keptThen keptOver failingsFrom failingsAt entryFrom endFrom owingsFrom computing computed
 opened = tt
 
 -- a case whose verdict is computed with the account in closed form
@@ -302,6 +308,12 @@ ordering-computes =
     refl & refl & refl & refl & refl & refl & refl & refl & refl & refl & refl & refl & refl & refl & refl & refl & refl & refl & refl & refl &
     refl & refl & refl & refl & refl & refl & refl & refl & refl & tt
 
+refined-computes : Every Computes refined
+unfolding opened Computes
+refined-computes =
+    refl & refl & refl & refl & refl & refl & refl & refl & refl & refl & refl & refl & refl & refl & refl & refl & refl & refl & refl & refl &
+    refl & refl & refl & refl & refl & refl & refl & refl & refl & refl & refl & refl & refl & refl & refl & tt
+
 pub starred-hold : Every Shown starred
 starred-hold = all-shown starred starred-computes
 
@@ -322,3 +334,6 @@ warming-hold = all-shown warming warming-computes
 
 pub ordering-hold : Every Shown ordering
 ordering-hold = all-shown ordering ordering-computes
+
+pub refined-hold : Every Shown refined
+refined-hold = all-shown refined refined-computes

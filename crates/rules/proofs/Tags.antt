@@ -8,7 +8,7 @@ use native.Mathlib.Omega.{arith}
 use lib.Dec.{leb, ltb, eqb}
 use borrow.Author.Tests.{leb-true, le-leb, ltb-true, eqb-false}
 use Rattle.rules.specs.Lists.{all}
-use Rattle.rules.specs.Form.{Group, _upTo_, groups, endsGroup, beginsGroup, ofEntry, ofTrace, inGroup, inGroups, ofCard, known, Listed, _of_, lengths}
+use Rattle.rules.specs.Form.{Group, _upTo_, groups, endsGroup, beginsGroup, ofEntry, ofTrace, inGroup, inGroups, ofCard, known, Listed, _of_, _of_or_, lengths}
 use Rattle.rules.proofs.Tests.{le-cases, eq-cases, both-true}
 use Rattle.rules.proofs.Onward.{onward, alike, by-bytes}
 
@@ -220,5 +220,5 @@ hasRow [] t = false
 hasRow (x ∷ xs) t = eqb (x .tag) t || hasRow xs t
 
 pub known-listed : (t : ℕ) → t < 256 → known t ≡ hasRow lengths t
-unfolding onward alike known ofCard inGroups inGroup groups _upTo_ ofTrace ofEntry hasRow lengths _of_
+unfolding onward alike known ofCard inGroups inGroup groups _upTo_ ofTrace ofEntry hasRow lengths _of_ _of_or_
 known-listed = by-bytes known (hasRow lengths) refl

@@ -1,54 +1,27 @@
--- The judge as it was before nWR: those of its definitions that request Two changed.
+-- The judge as it was before nWR: what request Two changed in the judge of `Coarse`.
 use Prim.Native.Nat.{ℕ, suc, _+_}
 use mathlib.Core.Bool.{Bool, cond, not, _&&_, _||_}
 use mathlib.Core.List.{List, [], _∷_, _++_}
-use mathlib.Core.Option.{Option}
 use lib.Dec.{ltb, eqb}
 use lib.ListN.{take, drop}
-use Rattle.rules.specs.Card.{Card}
 use Rattle.rules.specs.Units.{Delays}
-use Rattle.rules.specs.Heat.{delaysAt}
 use Rattle.rules.specs.Commands.{Command}
-use Rattle.rules.specs.Registers.{mr2Good, Modes}
-use Rattle.rules.specs.Ranges.{periodGood, groupsGood, trefiGood, timingGood, raiseGood}
+use Rattle.rules.specs.Registers.{Modes}
+use Rattle.rules.specs.Ranges.{groupsGood, timingGood, raiseGood}
 use Rattle.rules.specs.Levels.{Move}
-use Rattle.rules.specs.Past.{Past, mr4At}
-use Rattle.rules.specs.States.{stateGood}
-use Rattle.rules.specs.Folds.{firstOf, Rule, firstBroken}
+use Rattle.rules.specs.Folds.{Rule}
 use Rattle.rules.specs.Delays.{lastWRA-to, Asked, idleUse, lagging, rule, delayRules}
-use Rattle.rules.specs.Account.{lpddr3, failingIn, firstIn}
-use Rattle.rules.specs.Clock.{booksOf}
-use Rattle.rules.specs.Entries.{Entry, ownFor, viewFor, readFor, moveOf, judgedAs, pastWith}
-use Rattle.rules.specs.Checks.{Refusal, unless, named, isWrong, isReserved, isBarred, isClash, codeGood, valueGood, above}
-use Rattle.rules.specs.Form.{Field, Group, _upTo_, lastTag, endsGroup, beginsGroup, ofTrace, Listed, _of_, number, numberAt, timingOf, gapGood}
+use Rattle.rules.specs.Entries.{takenFor}
+use Rattle.rules.specs.Form.{Field, Group, _upTo_, lastTag, endsGroup, beginsGroup, ofTrace, Listed, _of_, isListed, number, numberAt, timingOf, gapGood}
 use Rattle.rules.specs.File.{FileVerdict}
 use Rattle.rules.specs.Lines.{entryLines, verdictLine}
-use Rattle.rules.proofs.Walks.{Judge, two, judgedBy, defined}
+use Rattle.rules.proofs.Walks.{Judge, two, judgedBy}
+use Rattle.rules.proofs.Coarse.{coarseEntryBy, coarseEnd, coarseVerdict, coarsePeriodGood, coarseMr2Good, coarseTrefiGood}
 
 -- ---- rule 18 goes by n(tWR), as rule 17 does
 unfoldable pub timedRules : Delays → Command → Move → ℕ → List (Rule Asked Modes)
 timedRules d c m n =
     take 17 (delayRules d c m n) ++ (rule 18 (lagging (idleUse c n) (λ rl wl. wl + 5 + d .twr + d .trppb) lastWRA-to) ∷ drop 18 (delayRules d c m n))
-
-unfoldable pub timedEntry : Card → Past → Entry → Option Refusal
-timedEntry card past e =
-    let v = viewFor card past e in
-    let r = readFor card past e in
-    let c = judgedAs r in
-    let t = e .stamp in
-    firstOf (
-    unless (above past t) 5 ∷
-    named 11 (firstIn lpddr3 (booksOf card past) t) ∷
-    unless (not (isWrong r)) 6 ∷
-    unless (not (isClash r)) 24 ∷
-    unless (not (isReserved r)) 7 ∷
-    unless (stateGood (v .open?) (v .counter) c) 8 ∷
-    unless (not (isBarred r)) 16 ∷
-    unless (valueGood card c) 9 ∷
-    unless (codeGood r) 26 ∷
-    named 10 (firstBroken (v .look) (timedRules (delaysAt card (mr4At (ownFor card past e))) c (moveOf r) (v .counter)) t) ∷
-    named 11 (failingIn lpddr3 (booksOf card (pastWith card past e)) t) ∷ []
-    )
 
 -- ---- the card's tags come in these groups, and behind them those of the trace
 unfoldable pub comeIn : (trace : ℕ → Bool) → List Group → (entries : Bool) → List Field → ℕ → Bool
@@ -71,10 +44,10 @@ unfoldable pub timedGood : List Field → Field → Bool
 timedGood fs f =
     let t = f .tag in
     let x = number (f .value) in
-    cond (eqb t 1) (periodGood x)
-    (cond (eqb t 2) (mr2Good (numberAt 1 fs) x)
+    cond (eqb t 1) (coarsePeriodGood x)
+    (cond (eqb t 2) (coarseMr2Good (numberAt 1 fs) x)
     (cond (eqb t 3) (groupsGood x)
-    (cond (eqb t 4) (trefiGood (numberAt 1 fs) x)
+    (cond (eqb t 4) (coarseTrefiGood (numberAt 1 fs) x)
     (cond (eqb t 25) (gapGood fs x)
     (cond (eqb t 26) (raiseGood x) (timingGood (timingOf (f .value))))))))
 
@@ -82,10 +55,12 @@ unfoldable pub timed : Judge
 timed = record {
   come = comeIn ofTrace timedGroups;
   wrong = two;
-  entry = timedEntry;
-  taken = defined .taken;
-  end = defined .end;
-  verdict = defined .verdict;
+  size = isListed timedLengths;
+  good = timedGood;
+  entry = coarseEntryBy timedRules;
+  taken = takenFor;
+  end = coarseEnd;
+  verdict = coarseVerdict;
 }
 
 -- ---- the verdict of a file, and its lines

@@ -1,6 +1,6 @@
 -- A file without tags 26 and 34 has the verdict and the lines that it had before temperature: every file had, just before nWR, unless tag 26 stands where its card
 -- could end and before its first entry, or tag 34 behind a whole card, where it was refused by 2. By `Unprogrammed` every file had just before request Three, unless
--- tag 23, 26 or 34 stands so or an entry that was taken writes MA 1; by `Retold` it has still, up to what was told anew.
+-- tag 23, 26 or 34 stands so or an entry that was taken writes MA 1; by `Unrefined` and `Retold` it has still, without an 8-byte period and up to what was told anew.
 use Prim.Native.Nat.{ℕ, suc, _≤_, _<_}
 use mathlib.Core.Path.{_≡_, refl, ap, sym, _∙_, fun-ext}
 use mathlib.Core.Logic.{_⊎_, inl, inr, ⊎-elim}
@@ -10,33 +10,32 @@ use mathlib.Core.Option.{none}
 use native.Mathlib.Omega.{arith}
 use lib.Dec.{leb, ltb, eqb}
 use borrow.Author.Tests.{leb-true, eqb-true, ne-eqb}
-use Rattle.rules.specs.Lists.{all}
+use Rattle.rules.specs.Lists.{all, isOneOf}
 use Rattle.rules.specs.Bits.{bits}
 use Rattle.rules.specs.Card.{Card}
-use Rattle.rules.specs.Units.{delaysOf}
-use Rattle.rules.specs.Heat.{heat, startMR4, intervalAt, isHot, delaysAt}
+use Rattle.rules.specs.Heat.{heat, startMR4, isHot}
 use Rattle.rules.specs.Ranges.{cardGood}
 use Rattle.rules.specs.Whose.{isOf, parts}
-use Rattle.rules.specs.Past.{Past, ofPart, mr4At, commandCount}
+use Rattle.rules.specs.Past.{Past, ofPart, mr4At}
 use Rattle.rules.specs.Folds.{orElse, firstOf}
 use Rattle.rules.specs.Account.{every, steady}
-use Rattle.rules.specs.Clock.{beatAt, scheduleBy, scheduleOf, bookOf, booksOf}
+use Rattle.rules.specs.Clock.{scheduleBy}
 use Rattle.rules.specs.Entries.{Entry, readBody, read, readAfter, ownFor, readFor, mr4Of, taken, takenFor, pastWith}
-use Rattle.rules.specs.Checks.{unless, codeGood, endChecks, endRefusal}
-use Rattle.rules.specs.Verdict.{refreshCount, ledgersAt}
-use Rattle.rules.specs.Form.{Field, Group, _upTo_, lastTag, endsGroup, beginsGroup, cardWhole, ofEntry, ofTrace, mayCome, _of_, isListed, lengthGood, cardOf, fieldGood, bodyOf, entryOf}
-use Rattle.rules.specs.File.{accepted, begun, Judged, judgeFile}
+use Rattle.rules.specs.Checks.{unless, codeGood}
+use Rattle.rules.specs.Form.{Field, Group, _upTo_, lastTag, endsGroup, beginsGroup, cardWhole, ofEntry, ofTrace, mayCome, _of_, isListed, cardOf, bodyOf, entryOf}
+use Rattle.rules.specs.File.{begun, Judged, judgeFile}
 use Rattle.rules.specs.FileReading.{CardRight}
 use Rattle.rules.specs.Lines.{unlessSensed, entryLines, linesOf}
 use Rattle.rules.proofs.Tests.{eq-cases, both-true}
 use Rattle.rules.proofs.PinReads.{read-is}
-use Rattle.rules.proofs.Rounding.{interval-start}
 use Rattle.rules.proofs.CardRead.{card-good}
 use Rattle.rules.proofs.Paces.{pins-senseless}
 use Rattle.rules.proofs.Tags.{begins-has}
-use Rattle.rules.proofs.Walks.{judgedBy, defined, Newer, Met, TagTests, tests-as, still-comes, Enters, Alike, agree, behind-it, all-have}
+use Rattle.rules.proofs.Walks.{judgedBy, AllSized, Newer, Met, TagTests, tests-as, still-comes, Enters, Alike, agree, behind-it, all-have}
 use Rattle.rules.proofs.Retold.{curt, Retold, LinesRetold, verdict-by, lines-by}
-use Rattle.rules.proofs.Timed.{timedEntry, comeIn, timedGroups, timedLengths, timedGood, timed}
+use Rattle.rules.proofs.Coarse.{coarseDelaysOf, coarseDelaysAt, coarseIntervalAt, coarseBeatAt, coarseScheduleOf, coarseBook, coarseBooks, coarseEntryBy, coarseEnd, coarseVerdict, coarseLengths, coarseGood, coarseCurt}
+use Rattle.rules.proofs.Unrefined.{coarse-start, coarse-listed, coarse-ranged, Unrefined, same-curt}
+use Rattle.rules.proofs.Timed.{timedRules, comeIn, timedGroups, timedLengths, timedGood, timed}
 use Rattle.rules.proofs.Unprogrammed.{ends-more, come-more, never-comes, whole-as-timed, timed-comes, Programmed, Unprogrammed, not-programmed, as-timed, length-as-timed, good-as-timed}
 use Rattle.rules.proofs.Mild.{pinsOf, pinned, mildTaken, mildBook, mildBooks, mildEntry, mildEnd, mildVerdict, mildTrace, mildGroups, mildLengths, mildGood, mild, judgeMild, mildLines, linesMild}
 
@@ -68,22 +67,22 @@ unfolding Cool mr4At
 cool-mr4 [] c = refl
 cool-mr4 (e ∷ t) c = rw (c .0) (cool-mr4 t (c .1))
 
-cool-delays : (card : Card) (past : Past) → Cool past → delaysAt card (mr4At past) ≡ delaysOf card
-unfolding delaysAt isHot heat startMR4 bits
+cool-delays : (card : Card) (past : Past) → Cool past → coarseDelaysAt card (mr4At past) ≡ coarseDelaysOf card
+unfolding coarseDelaysAt isHot heat startMR4 bits
 cool-delays card past c = rw (cool-mr4 past c)
 
-cool-schedule : (card : Card) (past : Past) → Cool past → scheduleOf card past ≡ steady (every (intervalAt card startMR4))
-unfolding Cool scheduleOf scheduleBy
-cool-schedule card [] c = unfold beatAt in refl
+cool-schedule : (card : Card) (past : Past) → Cool past → coarseScheduleOf card past ≡ steady (every (coarseIntervalAt card startMR4))
+unfolding Cool coarseScheduleOf scheduleBy
+cool-schedule card [] c = unfold coarseBeatAt in refl
 cool-schedule card (e ∷ t) c = rw (c .0) (cool-schedule card t (c .1))
 
 module _ (card : Card) (good : cardGood card ≡ true) where
-  cool-book : (past : Past) → Cool past → bookOf card past ≡ mildBook card past
-  unfolding bookOf mildBook
-  cool-book past c = rw (cool-schedule card past c, interval-start card good)
+  cool-book : (past : Past) → Cool past → coarseBook card past ≡ mildBook card past
+  unfolding coarseBook mildBook
+  cool-book past c = rw (cool-schedule card past c, coarse-start card good)
 
-  cool-books : (past : Past) → Cool past → booksOf card past ≡ mildBooks card past
-  unfolding booksOf mildBooks
+  cool-books : (past : Past) → Cool past → coarseBooks card past ≡ mildBooks card past
+  unfolding coarseBooks mildBooks
   cool-books past c = ap (λ f. map f (parts card)) (fun-ext (λ (p : ℕ). cool-book (ofPart p past) (cool-part p past c)))
 
 -- ---- an entry and the end
@@ -92,8 +91,8 @@ unfolding takenFor taken mildTaken readFor
 same-taken card past e = rw (senseless card (ownFor card past (pinned e)) e .1) (unfold pinned in refl)
 
 module _ (card : Card) (good : cardGood card ≡ true) (past : Past) (c : Cool past) where
-  same-entry : (e : Entry) → timedEntry card past (pinned e) ≡ mildEntry card past e
-  unfolding timedEntry mildEntry pastWith readFor
+  same-entry : (e : Entry) → coarseEntryBy timedRules card past (pinned e) ≡ mildEntry card past e
+  unfolding coarseEntryBy mildEntry pastWith readFor
   same-entry e =
       rw (
         same-taken card past e,
@@ -104,12 +103,12 @@ module _ (card : Card) (good : cardGood card ≡ true) (past : Past) (c : Cool p
       )
       (unfold pinned unless firstOf orElse in refl)
 
-  same-end : (end : ℕ) → endRefusal card past end ≡ mildEnd card past end
-  unfolding endRefusal endChecks mildEnd
+  same-end : (end : ℕ) → coarseEnd card past end ≡ mildEnd card past end
+  unfolding coarseEnd mildEnd
   same-end end = rw (cool-books card good past c)
 
-  same-verdict : (end : ℕ) → accepted (commandCount past) (refreshCount card past) (ledgersAt card past end) ≡ mildVerdict card past end
-  unfolding ledgersAt mildVerdict
+  same-verdict : (end : ℕ) → coarseVerdict card past end ≡ mildVerdict card past end
+  unfolding coarseVerdict mildVerdict
   same-verdict end = rw (cool-books card good past c)
 
 -- ---- the tags
@@ -130,6 +129,19 @@ card-low top gs firsts last b fs t low m o = go (endsGroup gs (lastTag fs)) refl
       where
         not-top : endsGroup gs (lastTag fs) ≡ false → lastTag fs ≡ top → ⊥
         not-top w e = let z : true ≡ false = sym last ∙ (rw e at w) in let y : _≡_ {A = ℕ} 0 1 = cc in omega arith
+
+-- ---- the lengths and the ranges of all tags but these and 23 are those of `Coarse`
+pub length-as-mild : (t l : ℕ) → (t ≡ 23 → ⊥) → (t ≡ 26 → ⊥) → (t ≡ 34 → ⊥) → isListed coarseLengths t l ≡ isListed mildLengths t l
+unfolding isListed isOneOf timedLengths mildLengths _of_
+length-as-mild t l k m n = length-as-timed t l k ∙ rw (ne-eqb 26 t (λ e. m (sym e)), ne-eqb 34 t (λ e. n (sym e)))
+
+pub good-as-mild : (fs : List Field) (f : Field) → (f .tag ≡ 23 → ⊥) → (f .tag ≡ 26 → ⊥) → coarseGood fs f ≡ mildGood fs f
+unfolding timedGood mildGood
+good-as-mild fs f k n = good-as-timed fs f k ∙ rw (ne-eqb (f .tag) 26 n)
+
+never-eight : isListed mildLengths 1 8 ≡ false
+unfolding isListed isOneOf mildLengths _of_
+never-eight = refl
 
 -- ---- a file
 -- tag 26 before the first entry, and tag 34
@@ -169,6 +181,14 @@ module _ (b : Bool) (fs : List Field) (low : lastTag fs ≤ 25) (n : lastTag fs 
   pub mild-comes : (t : ℕ) → comeIn mildTrace mildGroups b fs t ≡ true → mayCome b fs t ≡ true
   mild-comes t m = timed-comes b fs n t (still-comes (tag-as-mild t) m)
 
+  -- none of these comes
+  pub mild-tags : (t : ℕ) → comeIn mildTrace mildGroups b fs t ≡ true → (t ≡ 23 → ⊥) × (t ≡ 26 → ⊥) × (t ≡ 34 → ⊥)
+  mild-tags t m = (unfold mildGroups mildTrace beginsGroup endsGroup _upTo_ in
+      (never-comes mildTrace mildGroups 22 refl refl refl b fs t m, never-comes mildTrace mildGroups 25 refl refl refl b fs t m, λ e. thirty-four e))
+    where
+      thirty-four : t ≡ 34 → ⊥
+      thirty-four e = let z : false ≡ true = sym never-34 ∙ (rw e at m) in let y : _≡_ {A = ℕ} 0 1 = cc in omega arith
+
   -- an entry that may come is of pins
   pins-come : (f : Field) → comeIn mildTrace mildGroups b fs (f .tag) ≡ true → pinned (entryOf f) ≡ entryOf f
   unfolding pinned pinsOf entryOf bodyOf
@@ -188,14 +208,18 @@ Unheated bytes = Newer Tag26or34 bytes → ⊥
 abbrev Also : List Field → Past → Type 0
 Also fs past = (lastTag fs ≤ 25) × (lastTag fs ≡ 23 → ⊥) × Cool past
 
-alike : (fs : List Field) (past : Past) → CardRight fs → Also fs past → Alike timed mild Tag26or34 Also fs past
-unfolding defined timed mild
-alike fs past r q = record {
+alike : (fs : List Field) (past : Past) → CardRight fs → AllSized (mild .size) fs → Also fs past → Alike timed mild Tag26or34 Also fs past
+unfolding timed mild
+alike fs past r z q = record {
   tag = tag-as-mild (begun past) fs (q .0) (q .1);
   known = mild-comes (begun past) fs (q .0) (q .1);
   wrong = λ t. refl;
-  card = λ f b m o. (unfold lastTag in low f m o, unfold lastTag in other-tag f m, q .2);
-  entry = λ f n. ap (timedEntry (cardOf fs) past) (sym (as-pins f n)) ∙ same-entry (cardOf fs) (card-good fs r (n .whole)) past (q .2) (entryOf f);
+  size = λ t l m. let (k, i, j) = others t m in sym (length-as-timed t l k) ∙ length-as-mild t l k i j;
+  listed = λ t l m s. let (k, i, j) = others t m in coarse-listed t l (length-as-mild t l k i j ∙ s);
+  good = λ f m o. let (k, i, j) = others (f .tag) m in sym (good-as-timed fs f k) ∙ good-as-mild fs f k i;
+  ranged = λ f m o s g. let (k, i, j) = others (f .tag) m in coarse-ranged (isListed mildLengths) never-eight fs z f s (good-as-mild fs f k i ∙ g);
+  card = λ f b m o. (unfold lastTag in low f m o, unfold lastTag in others (f .tag) m .0, q .2);
+  entry = λ f n. ap (coarseEntryBy timedRules (cardOf fs) past) (sym (as-pins f n)) ∙ same-entry (cardOf fs) (card-good fs r (n .whole)) past (q .2) (entryOf f);
   taken = λ f n. ap (takenFor (cardOf fs) past) (sym (as-pins f n)) ∙ same-taken (cardOf fs) past (entryOf f);
   also = λ f n e. (q .0, q .1, cool-next (cardOf fs) past (entryOf f) (q .2));
   end = λ w. same-end (cardOf fs) (card-good fs r w) past (q .2);
@@ -205,8 +229,8 @@ alike fs past r q = record {
     low : (f : Field) → comeIn mildTrace mildGroups (begun past) fs (f .tag) ≡ true → ofTrace (f .tag) ≡ false → f .tag ≤ 25
     low f = unfold all endsGroup mildGroups _upTo_ in card-low 25 mildGroups refl refl (begun past) fs (f .tag) (q .0)
 
-    other-tag : (f : Field) → comeIn mildTrace mildGroups (begun past) fs (f .tag) ≡ true → f .tag ≡ 23 → ⊥
-    other-tag f = unfold mildGroups mildTrace beginsGroup endsGroup _upTo_ in never-comes mildTrace mildGroups 22 refl refl refl (begun past) fs (f .tag)
+    others : (t : ℕ) → comeIn mildTrace mildGroups (begun past) fs t ≡ true → (t ≡ 23 → ⊥) × (t ≡ 26 → ⊥) × (t ≡ 34 → ⊥)
+    others = mild-tags (begun past) fs (q .0) (q .1)
 
     as-pins : (f : Field) → Enters mild fs past f → pinned (entryOf f) ≡ entryOf f
     as-pins f n = pins-come (begun past) fs (q .0) (q .1) f (unfold mild in n .may)
@@ -218,7 +242,7 @@ module _ (bytes : List ℕ) where
   as-mild = agree timed mild Tag26or34 Also alike bytes (unfold lastTag Cool in (omega arith, (λ e. omega (arith, e)), tt))
 
   -- and just before request Three they were still, or tag 23, 26 or 34 stands so, or an entry that was taken writes MA 1
-  pub mild-ever : (judgedBy curt bytes ≡ judgedBy mild bytes) ⊎ (Heated bytes (judgedBy mild bytes) ⊎ Programmed bytes (judgedBy mild bytes))
+  pub mild-ever : (judgedBy coarseCurt bytes ≡ judgedBy mild bytes) ⊎ (Heated bytes (judgedBy mild bytes) ⊎ Programmed bytes (judgedBy mild bytes))
   mild-ever = behind-it (Programmed bytes) as-mild (as-timed bytes)
 
 -- ---- the lines
@@ -228,10 +252,10 @@ cool-lines [] c = refl
 cool-lines (e ∷ t) c = rw (c .0, cool-lines t (c .1))
 
 -- ---- a file without tags 23, 26 and 34, of which no entry that was taken writes MA 1
-module _ (bytes : List ℕ) (unheated : Unheated bytes) (unprogrammed : Unprogrammed bytes (judgedBy mild bytes)) where
+module _ (bytes : List ℕ) (unrefined : Unrefined bytes) (unheated : Unheated bytes) (unprogrammed : Unprogrammed bytes (judgedBy mild bytes)) where
   same-mild : judgedBy curt bytes ≡ judgedBy mild bytes
-  same-mild = ⊎-elim
-      (λ (e : judgedBy curt bytes ≡ judgedBy mild bytes). e)
+  same-mild = same-curt bytes unrefined ∙ ⊎-elim
+      (λ (e : judgedBy coarseCurt bytes ≡ judgedBy mild bytes). e)
       (⊎-elim
       (λ (h : Heated bytes (judgedBy mild bytes)). absurd (unheated (h .there)))
       (λ (p : Programmed bytes (judgedBy mild bytes)). absurd (not-programmed bytes _ unprogrammed p)))
@@ -244,12 +268,3 @@ module _ (bytes : List ℕ) (unheated : Unheated bytes) (unprogrammed : Unprogra
   pub lines-as-mild : LinesRetold (linesMild bytes) (linesOf bytes)
   unfolding linesMild
   lines-as-mild = lines-by bytes _ same-mild _ (cool-lines (judgedBy mild bytes .past) (all-have mild Cool (unfold mild in cool-next) bytes (unfold Cool in tt)))
-
--- ---- what that judge shares with the definitions is as it was for it: the lengths and the ranges of all tags but these
-pub length-as-mild : (t l : ℕ) → (t ≡ 23 → ⊥) → (t ≡ 26 → ⊥) → (t ≡ 34 → ⊥) → lengthGood t l ≡ isListed mildLengths t l
-unfolding isListed timedLengths mildLengths _of_
-length-as-mild t l k m n = length-as-timed t l k ∙ rw (ne-eqb 26 t (λ e. m (sym e)), ne-eqb 34 t (λ e. n (sym e)))
-
-pub good-as-mild : (fs : List Field) (f : Field) → (f .tag ≡ 23 → ⊥) → (f .tag ≡ 26 → ⊥) → fieldGood fs f ≡ mildGood fs f
-unfolding timedGood mildGood
-good-as-mild fs f k n = good-as-timed fs f k ∙ rw (ne-eqb (f .tag) 26 n)

@@ -1,6 +1,6 @@
--- A file without tag 23 in its card, of which no entry that was taken writes MA 1, has the verdict and the lines that it had before nWR, up to
--- what request Three told anew: every file had, just before that, unless tag 23 stands where its card could end, before its first entry and behind no later tag,
--- where it was refused by 2, or an entry that was taken writes MA 1.
+-- A file without an 8-byte period and without tag 23 in its card, of which no entry that was taken writes MA 1, has the verdict and the lines that it had before
+-- nWR, up to what request Three told anew: every file had, just before that, unless tag 23 stands where its card could end, before its first entry and behind no
+-- later tag, where it was refused by 2, or an entry that was taken writes MA 1.
 use Prim.Native.Nat.{ℕ, zero, suc, _+_, _≤_, _<_}
 use mathlib.Core.Path.{_≡_, refl, ap, sym, _∙_}
 use mathlib.Core.Logic.{_⊎_, inl, inr, ⊎-elim}
@@ -11,9 +11,9 @@ use native.Mathlib.Omega.{arith}
 use lib.Dec.{ltb, eqb}
 use lib.ListN.{take, drop}
 use borrow.Author.Tests.{eq-eqb, ne-eqb}
+use Rattle.rules.specs.Lists.{isOneOf}
 use Rattle.rules.specs.Card.{Card}
 use Rattle.rules.specs.Units.{Delays}
-use Rattle.rules.specs.Heat.{delaysAt}
 use Rattle.rules.specs.Commands.{Command}
 use Rattle.rules.specs.Registers.{wlOf, Modes, nwrBy, nwrOf}
 use Rattle.rules.specs.Whose.{isOf}
@@ -22,15 +22,16 @@ use Rattle.rules.specs.Past.{Taken, Past, ofPart, writesMA, registerAfte
 use Rattle.rules.specs.Folds.{Found, Source, Rule, latest, back, permitted, permittedBy, bound, firstBroken}
 use Rattle.rules.specs.Delays.{Ask, lastWRA-to, Question, Asked, mine, Lookup, Meaning, means, unnoted, notedOf, found, find, lookBoth, idleUse, lagging, recovering, rule, delayRules}
 use Rattle.rules.specs.Entries.{Entry, viewOf, ownFor, viewFor, readFor, moveOf, judgedAs, takenFor}
-use Rattle.rules.specs.Checks.{checks, entryChecks, entryRefusal}
-use Rattle.rules.specs.Form.{Field, Group, _upTo_, groups, lastTag, endsGroup, beginsGroup, cardWhole, ofEntry, ofTrace, mayFollow, mayCome, _of_, lengths, isListed, lengthGood, has, numberIf, cardOf, fieldGood, entryOf}
+use Rattle.rules.specs.Form.{Field, Group, _upTo_, groups, lastTag, endsGroup, beginsGroup, cardWhole, ofEntry, ofTrace, mayFollow, mayCome, _of_, isListed, has, numberIf, cardOf, entryOf}
 use Rattle.rules.specs.File.{begun, Judged, judgeFile}
 use Rattle.rules.specs.FileReading.{CardRight}
 use Rattle.rules.specs.Lines.{linesOf}
 use Rattle.rules.proofs.Tests.{lt-cases, eq-cases}
-use Rattle.rules.proofs.Walks.{judgedBy, defined, Newer, Met, TagTests, tests-as, still-comes, Alike, agree-until}
+use Rattle.rules.proofs.Walks.{judgedBy, AllSized, Newer, Met, TagTests, tests-as, still-comes, Alike, agree-until}
 use Rattle.rules.proofs.Retold.{curt, Retold, LinesRetold, verdict-by, lines-by}
-use Rattle.rules.proofs.Timed.{timedRules, timedEntry, comeIn, timedGroups, timedLengths, timedGood, timed, judgeTimed, linesTimed}
+use Rattle.rules.proofs.Coarse.{coarseDelaysAt, coarseEntryBy, coarseLengths, coarseGood, coarseBy, coarseCurt}
+use Rattle.rules.proofs.Unrefined.{coarse-listed, coarse-ranged, Unrefined, same-curt}
+use Rattle.rules.proofs.Timed.{timedRules, comeIn, timedGroups, timedLengths, timedGood, timed, judgeTimed, linesTimed}
 
 -- ---- an entry that was taken writes MA 1, or none does
 unfoldable pub Written : Past → Type 0
@@ -147,10 +148,10 @@ module _ (card : Card) (bare : card .mr1 ≡ none) (past : Past) (u : Unwritten 
   unfolding viewFor viewOf lookBoth ownFor
   look-unnoted e q = find-unnoted card bare _ (unwritten-part _ past u) q
 
-  same-entry : (e : Entry) → entryRefusal card past e ≡ timedEntry card past e
-  unfolding entryRefusal entryChecks checks timedEntry
+  same-entry : (e : Entry) → coarseEntryBy delayRules card past e ≡ coarseEntryBy timedRules card past e
+  unfolding coarseEntryBy
   same-entry e =
-      rw (same-rules (viewFor card past e .look) (look-unnoted e) (delaysAt card (mr4At (ownFor card past e)))
+      rw (same-rules (viewFor card past e .look) (look-unnoted e) (coarseDelaysAt card (mr4At (ownFor card past e)))
       (judgedAs (readFor card past e)) (moveOf (readFor card past e)) (viewFor card past e .counter) (e .stamp))
 
 -- ---- the tags
@@ -206,6 +207,19 @@ unfolding has lastTag
 last-has t [] h e = omega arith
 last-has t (f ∷ fs) h e = let z : true ≡ false = sym (rw (eq-eqb (f .tag) (suc t) e)) ∙ h in let y : _≡_ {A = ℕ} 0 1 = cc in omega arith
 
+-- ---- the lengths and the ranges of all tags but 23 are those of `Coarse`
+pub length-as-timed : (t l : ℕ) → (t ≡ 23 → ⊥) → isListed coarseLengths t l ≡ isListed timedLengths t l
+unfolding isListed isOneOf coarseLengths timedLengths _of_
+length-as-timed t l n = rw (ne-eqb 23 t (λ e. n (sym e)))
+
+pub good-as-timed : (fs : List Field) (f : Field) → (f .tag ≡ 23 → ⊥) → coarseGood fs f ≡ timedGood fs f
+unfolding coarseGood timedGood
+good-as-timed fs f n = rw (ne-eqb (f .tag) 23 n)
+
+never-eight : isListed timedLengths 1 8 ≡ false
+unfolding isListed isOneOf timedLengths _of_
+never-eight = refl
+
 -- ---- a file
 -- tag 23 before the first entry and behind no later tag
 abbrev pub Tag23 : (entries : Bool) → List Field → ℕ → Type 0
@@ -241,13 +255,17 @@ not-programmed bytes j u (inr w) = u .1 w
 abbrev Also : List Field → Past → Type 0
 Also fs past = (has 23 fs ≡ false) × Unwritten past
 
-alike : (fs : List Field) (past : Past) → CardRight fs → Also fs past → Alike curt timed Tag23 (λ fs past. Also fs past ⊎ Written past) fs past
-unfolding defined curt timed
-alike fs past r q = record {
+alike : (fs : List Field) (past : Past) → CardRight fs → AllSized (timed .size) fs → Also fs past → Alike coarseCurt timed Tag23 (λ fs past. Also fs past ⊎ Written past) fs past
+unfolding coarseBy timed
+alike fs past r z q = record {
   tag = tag-as-timed (begun past) fs (last-has 22 fs (q .0));
   known = timed-comes (begun past) fs (last-has 22 fs (q .0));
   wrong = λ t. refl;
-  card = λ f b m o. inl (unfold has in rw (ne-eqb (f .tag) 23 (other-tag f m)) (q .0), q .1);
+  size = λ t l m. length-as-timed t l (other-tag t m);
+  listed = λ t l m s. coarse-listed t l (length-as-timed t l (other-tag t m) ∙ s);
+  good = λ f m o. good-as-timed fs f (other-tag (f .tag) m);
+  ranged = λ f m o s g. coarse-ranged (isListed timedLengths) never-eight fs z f s (good-as-timed fs f (other-tag (f .tag) m) ∙ g);
+  card = λ f b m o. inl (unfold has in rw (ne-eqb (f .tag) 23 (other-tag (f .tag) m)) (q .0), q .1);
   entry = λ f n. same-entry (cardOf fs) (unfold cardOf numberIf in rw (q .0)) past (q .1) (entryOf f);
   taken = λ f n. refl;
   also = λ f n e. ⊎-elim
@@ -258,20 +276,20 @@ alike fs past r q = record {
   verdict = λ w t n. refl;
 }
   where
-    other-tag : (f : Field) → comeIn ofTrace timedGroups (begun past) fs (f .tag) ≡ true → f .tag ≡ 23 → ⊥
-    other-tag f = unfold timedGroups beginsGroup endsGroup ofTrace ofEntry _upTo_ in never-comes ofTrace timedGroups 22 refl refl refl (begun past) fs (f .tag)
+    other-tag : (t : ℕ) → comeIn ofTrace timedGroups (begun past) fs t ≡ true → t ≡ 23 → ⊥
+    other-tag t = unfold timedGroups beginsGroup endsGroup ofTrace ofEntry _upTo_ in never-comes ofTrace timedGroups 22 refl refl refl (begun past) fs t
 
 module _ (bytes : List ℕ) where
   -- just before request Three the entries taken and the verdict were what they had been, or tag 23 stands where it was a wrong tag, or an entry that was taken writes MA 1
-  pub as-timed : (judgedBy curt bytes ≡ judgedBy timed bytes) ⊎ Programmed bytes (judgedBy timed bytes)
+  pub as-timed : (judgedBy coarseCurt bytes ≡ judgedBy timed bytes) ⊎ Programmed bytes (judgedBy timed bytes)
   unfolding timed
-  as-timed = agree-until curt timed Tag23 Also Written (λ card past e. written-next (timed .taken card past e) past) alike bytes (unfold has Unwritten in (refl, tt))
+  as-timed = agree-until coarseCurt timed Tag23 Also Written (λ card past e. written-next (timed .taken card past e) past) alike bytes (unfold has Unwritten in (refl, tt))
 
 -- ---- a file with neither
-module _ (bytes : List ℕ) (unprogrammed : Unprogrammed bytes (judgedBy timed bytes)) where
+module _ (bytes : List ℕ) (unrefined : Unrefined bytes) (unprogrammed : Unprogrammed bytes (judgedBy timed bytes)) where
   same-timed : judgedBy curt bytes ≡ judgedBy timed bytes
-  same-timed = ⊎-elim
-      (λ (e : judgedBy curt bytes ≡ judgedBy timed bytes). e)
+  same-timed = same-curt bytes unrefined ∙ ⊎-elim
+      (λ (e : judgedBy coarseCurt bytes ≡ judgedBy timed bytes). e)
       (λ (p : Programmed bytes (judgedBy timed bytes)). absurd (not-programmed bytes _ unprogrammed p))
       (as-timed bytes)
 
@@ -282,12 +300,3 @@ module _ (bytes : List ℕ) (unprogrammed : Unprogrammed bytes (judgedBy timed b
   pub lines-as-timed : LinesRetold (linesTimed bytes) (linesOf bytes)
   unfolding linesTimed
   lines-as-timed = lines-by bytes _ same-timed _ refl
-
--- ---- what that judge shares with the definitions is as it was for it: the lengths and the ranges of all tags but 23
-pub length-as-timed : (t l : ℕ) → (t ≡ 23 → ⊥) → lengthGood t l ≡ isListed timedLengths t l
-unfolding lengthGood isListed lengths timedLengths _of_
-length-as-timed t l n = rw (ne-eqb 23 t (λ e. n (sym e)))
-
-pub good-as-timed : (fs : List Field) (f : Field) → (f .tag ≡ 23 → ⊥) → fieldGood fs f ≡ timedGood fs f
-unfolding fieldGood timedGood
-good-as-timed fs f n = rw (ne-eqb (f .tag) 23 n)

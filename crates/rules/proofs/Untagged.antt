@@ -1,6 +1,6 @@
 -- A file without tag 25 in its card has the verdict and the lines that it had before two parts could share a bus: every file had, just before temperature,
 -- unless tag 25 stands where its card could end, where it was refused by 2. By `Unheated` every file had just before request Three, unless tag 23,
--- 25, 26 or 34 stands so or an entry that was taken writes MA 1; by `Retold` it has still, up to what was told anew.
+-- 25, 26 or 34 stands so or an entry that was taken writes MA 1; by `Unrefined` and `Retold` it has still, without an 8-byte period and up to what was told anew.
 use Prim.Native.Nat.{ℕ, zero, suc, _+_, _-_, _≤_, _<_}
 use mathlib.Core.Path.{_≡_, refl, ap, sym, _∙_, fun-ext}
 use mathlib.Core.Logic.{_⊎_, ⊎-elim}
@@ -10,9 +10,9 @@ use mathlib.Core.Option.{none}
 use native.Mathlib.Omega.{arith}
 use lib.ListN.{length, take, drop, take-append-drop}
 use borrow.Author.Tests.{le-leb, ne-eqb}
-use Rattle.rules.specs.Lists.{all, when, Every}
+use Rattle.rules.specs.Lists.{all, isOneOf, when, Every}
 use Rattle.rules.specs.Card.{Card}
-use Rattle.rules.specs.Units.{Delays, delaysOf}
+use Rattle.rules.specs.Units.{Delays}
 use Rattle.rules.specs.Commands.{MRR, RD, WR, Command, is}
 use Rattle.rules.specs.Registers.{Modes}
 use Rattle.rules.specs.Whose.{Whose, sole, isOf, partOf, other, whose, parts}
@@ -23,7 +23,7 @@ use Rattle.rules.specs.Delays.{Ask, lastRD, lastWR, lastRDorMRR, Questio
 use Rattle.rules.specs.Entries.{Entry, viewOf, readBody, read, readAfter, whoseBody, whoseOf, partIn, ownFor, othersFor, viewFor, readFor, moveOf, judgedAs}
 use Rattle.rules.specs.Checks.{unless, isClash}
 use Rattle.rules.specs.Verdict.{sum, refreshCount}
-use Rattle.rules.specs.Form.{Field, _upTo_, lastTag, endsGroup, beginsGroup, cardWhole, ofTrace, mayCome, _of_, isListed, lengthGood, has, cardOf, fieldGood, entryOf}
+use Rattle.rules.specs.Form.{Field, _upTo_, lastTag, endsGroup, beginsGroup, cardWhole, ofEntry, ofTrace, mayCome, _of_, isListed, lengthGood, has, cardOf, fieldGood, entryOf}
 use Rattle.rules.specs.File.{begun, Judged, judgeFile}
 use Rattle.rules.specs.FileReading.{CardRight}
 use Rattle.rules.specs.Lines.{shownPart, entryLine, entryLines, linesOf}
@@ -31,12 +31,14 @@ use Rattle.rules.proofs.Tests.{_&_}
 use Rattle.rules.proofs.PinReads.{pins-are}
 use Rattle.rules.proofs.Waking.{read-alone}
 use Rattle.rules.proofs.Table.{every-both}
-use Rattle.rules.proofs.Walks.{judgedBy, Newer, Met, TagTests, tests-as, still-comes, Alike, agree, behind-it, all-have}
+use Rattle.rules.proofs.Walks.{judgedBy, AllSized, Newer, Met, TagTests, tests-as, still-comes, Alike, agree, behind-it, all-have}
 use Rattle.rules.proofs.Retold.{curt, Retold, LinesRetold, verdict-by, lines-by}
+use Rattle.rules.proofs.Coarse.{coarseDelaysOf, coarseLengths, coarseGood, coarseCurt}
+use Rattle.rules.proofs.Unrefined.{coarse-listed, coarse-ranged, Unrefined, same-curt}
 use Rattle.rules.proofs.Timed.{timedRules, comeIn}
 use Rattle.rules.proofs.Unprogrammed.{ends-more, come-more, Programmed, Unprogrammed, not-programmed}
 use Rattle.rules.proofs.Mild.{pinsOf, pinned, mildTaken, mildBook, mildBooks, mildEntry, mildEnd, mildVerdict, mildTrace, mildGroups, mildLengths, mildGood, mild, mildLines}
-use Rattle.rules.proofs.Unheated.{Cool, card-low, whole-as-mild, mild-comes, Heated, Unheated, mild-ever, cool-lines, length-as-mild, good-as-mild}
+use Rattle.rules.proofs.Unheated.{Cool, card-low, whole-as-mild, mild-comes, mild-tags, Heated, Unheated, mild-ever, cool-lines, length-as-mild, good-as-mild}
 use Rattle.rules.proofs.Alone.{aloneRead, aloneTaken, noAnswer, aloneLook, aloneRules, aloneEntry, aloneEnd, aloneVerdict, aloneGroups, aloneLengths, aloneGood, alone, judgeAlone, aloneLine, aloneLines, linesAlone}
 
 -- ---- a past of one part
@@ -163,7 +165,7 @@ module _ (card : Card) (one : card .paired ≡ false) (past : Past) (s : Sole pa
         same-read card one past s e,
         own-is-past card one past s e,
         others-none card one past s e,
-        same-rules card one past s e (delaysOf card) (judgedAs (aloneRead card past e)) (moveOf (aloneRead card past e)) (counterAt past) (e .stamp),
+        same-rules card one past s e (coarseDelaysOf card) (judgedAs (aloneRead card past e)) (moveOf (aloneRead card past e)) (counterAt past) (e .stamp),
       )
       (unfold aloneRead in rw (clear (card .sleeps) (levelAt past) (pinsOf e)) (unfold unless firstOf orElse in refl))
 
@@ -176,6 +178,19 @@ module _ (card : Card) (one : card .paired ≡ false) (past : Past) (s : Sole pa
   same-verdict end =
       let z : length (countedStamps past) + 0 ≡ length (countedStamps past) = omega arith in
       rw (books-one card one past s, one, own-sole past s, z)
+
+-- ---- the lengths and the ranges of all tags but these and 23, 26 and 34 are those of `Coarse`
+pub length-as-alone : (t l : ℕ) → (t ≡ 23 → ⊥) → (t ≡ 25 → ⊥) → (t ≡ 26 → ⊥) → (t ≡ 34 → ⊥) → isListed coarseLengths t l ≡ isListed aloneLengths t l
+unfolding isListed isOneOf mildLengths aloneLengths _of_
+length-as-alone t l j n m k = length-as-mild t l j m k ∙ rw (ne-eqb 25 t (λ e. n (sym e)))
+
+pub good-as-alone : (fs : List Field) (f : Field) → (f .tag ≡ 23 → ⊥) → (f .tag ≡ 25 → ⊥) → (f .tag ≡ 26 → ⊥) → coarseGood fs f ≡ aloneGood fs f
+unfolding mildGood aloneGood
+good-as-alone fs f k n m = good-as-mild fs f k m ∙ rw (ne-eqb (f .tag) 25 n)
+
+pub never-eight : isListed aloneLengths 1 8 ≡ false
+unfolding isListed isOneOf aloneLengths _of_
+never-eight = refl
 
 -- ---- a file
 -- tag 25 before the first entry
@@ -196,6 +211,23 @@ module _ (b : Bool) (fs : List Field) (low : lastTag fs ≤ 22) where
   pub alone-comes : (t : ℕ) → comeIn mildTrace aloneGroups b fs t ≡ true → mayCome b fs t ≡ true
   alone-comes t m = mild-comes b fs (omega (arith, low)) (λ e. omega (arith, e, low)) t (still-comes (tag-as-alone t) m)
 
+  -- none of these comes
+  alone-tags : (t : ℕ) → comeIn mildTrace aloneGroups b fs t ≡ true → (t ≡ 23 → ⊥) × (t ≡ 25 → ⊥) × (t ≡ 26 → ⊥) × (t ≡ 34 → ⊥)
+  alone-tags t m =
+      let (k, i, j) = mild-tags b fs (omega (arith, low)) (λ e. omega (arith, e, low)) t (still-comes (tag-as-alone t) m) in
+      (k, (λ e. omega (arith, e, small (unfold ofTrace ofEntry in rw e))), i, j)
+    where
+      small : ofTrace t ≡ false → t ≤ 22
+      small = unfold all endsGroup aloneGroups _upTo_ in card-low 22 aloneGroups refl refl b fs t low m
+
+  -- so what it lists, and what it holds to be in range, is so still
+  pub alone-listed : (t l : ℕ) → comeIn mildTrace aloneGroups b fs t ≡ true → isListed aloneLengths t l ≡ true → lengthGood t l ≡ true
+  alone-listed t l m s = let (k, h, i, j) = alone-tags t m in coarse-listed t l (length-as-alone t l k h i j ∙ s)
+
+  pub alone-ranged : AllSized (isListed aloneLengths) fs → (f : Field) → comeIn mildTrace aloneGroups b fs (f .tag) ≡ true →
+      isListed aloneLengths (f .tag) (length (f .value)) ≡ true → aloneGood fs f ≡ true → fieldGood fs f ≡ true
+  alone-ranged z f m s g = let (k, h, i, j) = alone-tags (f .tag) m in coarse-ranged (isListed aloneLengths) never-eight fs z f s (good-as-alone fs f k h i ∙ g)
+
 -- tag 25 stands so, and what was said of the file is a wrong tag there
 abbrev pub Paired : List ℕ → Judged → Type 0
 Paired = Met Tag25
@@ -209,12 +241,16 @@ record Also (fs : List Field) (past : Past) : Type 0 where
   without : has 25 fs ≡ false
   only : Sole past
 
-alike : (fs : List Field) (past : Past) → CardRight fs → Also fs past → Alike mild alone Tag25 Also fs past
+alike : (fs : List Field) (past : Past) → CardRight fs → AllSized (alone .size) fs → Also fs past → Alike mild alone Tag25 Also fs past
 unfolding mild alone
-alike fs past r q = record {
+alike fs past r z q = record {
   tag = tag-as-alone (begun past) fs (q .low);
   known = alone-comes (begun past) fs (q .low);
   wrong = λ t. refl;
+  size = λ t l m. let (k, h, i, j) = others t m in sym (length-as-mild t l k i j) ∙ length-as-alone t l k h i j;
+  listed = alone-listed (begun past) fs (q .low);
+  good = λ f m o. let (k, h, i, j) = others (f .tag) m in sym (good-as-mild fs f k i) ∙ good-as-alone fs f k h i;
+  ranged = λ f m o. alone-ranged (begun past) fs (q .low) z f m;
   card = λ f b m o. let l = small f m o in record { low = unfold lastTag in l; without = unfold has in rw (ne-eqb (f .tag) 25 (λ e. omega (arith, e, l))) (q .without); only = q .only };
   entry = λ f n. same-entry (cardOf fs) one past (q .only) (entryOf f);
   taken = λ f n. same-taken (cardOf fs) one past (q .only) (entryOf f);
@@ -226,6 +262,9 @@ alike fs past r q = record {
     one : cardOf fs .paired ≡ false
     one = unfold cardOf in q .without
 
+    others : (t : ℕ) → comeIn mildTrace aloneGroups (begun past) fs t ≡ true → (t ≡ 23 → ⊥) × (t ≡ 25 → ⊥) × (t ≡ 26 → ⊥) × (t ≡ 34 → ⊥)
+    others = alone-tags (begun past) fs (q .low)
+
     small : (f : Field) → comeIn mildTrace aloneGroups (begun past) fs (f .tag) ≡ true → ofTrace (f .tag) ≡ false → f .tag ≤ 22
     small f = unfold all endsGroup aloneGroups _upTo_ in card-low 22 aloneGroups refl refl (begun past) fs (f .tag) (q .low)
 
@@ -236,7 +275,7 @@ module _ (bytes : List ℕ) where
   as-alone = agree mild alone Tag25 Also alike bytes (record { low = unfold lastTag in omega arith; without = unfold has in refl; only = unfold Sole in tt })
 
   -- and just before request Three they were still, or tag 23, 25, 26 or 34 stands so, or an entry that was taken writes MA 1
-  pub alone-ever : (judgedBy curt bytes ≡ judgedBy alone bytes)
+  pub alone-ever : (judgedBy coarseCurt bytes ≡ judgedBy alone bytes)
       ⊎ (Paired bytes (judgedBy alone bytes) ⊎ (Heated bytes (judgedBy alone bytes) ⊎ Programmed bytes (judgedBy alone bytes)))
   alone-ever = behind-it (λ j. Heated bytes j ⊎ Programmed bytes j) as-alone (mild-ever bytes)
 
@@ -260,10 +299,10 @@ alone-lines bytes =
     cool-on card past e c = unfold Cool aloneTaken in (refl, c)
 
 -- ---- a file without tags 23, 25, 26 and 34, of which no entry that was taken writes MA 1
-module _ (bytes : List ℕ) (untagged : Untagged bytes) (unheated : Unheated bytes) (unprogrammed : Unprogrammed bytes (judgedBy alone bytes)) where
+module _ (bytes : List ℕ) (unrefined : Unrefined bytes) (untagged : Untagged bytes) (unheated : Unheated bytes) (unprogrammed : Unprogrammed bytes (judgedBy alone bytes)) where
   same-alone : judgedBy curt bytes ≡ judgedBy alone bytes
-  same-alone = ⊎-elim
-      (λ (e : judgedBy curt bytes ≡ judgedBy alone bytes). e)
+  same-alone = same-curt bytes unrefined ∙ ⊎-elim
+      (λ (e : judgedBy coarseCurt bytes ≡ judgedBy alone bytes). e)
       (⊎-elim
       (λ (p : Paired bytes (judgedBy alone bytes)). absurd (untagged (p .there)))
       (⊎-elim
@@ -278,12 +317,3 @@ module _ (bytes : List ℕ) (untagged : Untagged bytes) (unheated : Unheated byt
   pub lines-as-alone : LinesRetold (linesAlone bytes) (linesOf bytes)
   unfolding linesAlone
   lines-as-alone = lines-by bytes _ same-alone _ (alone-lines bytes)
-
--- ---- what that judge shares with the definitions is as it was for it: the lengths and the ranges of all tags but these
-pub length-as-alone : (t l : ℕ) → (t ≡ 23 → ⊥) → (t ≡ 25 → ⊥) → (t ≡ 26 → ⊥) → (t ≡ 34 → ⊥) → lengthGood t l ≡ isListed aloneLengths t l
-unfolding isListed mildLengths aloneLengths _of_
-length-as-alone t l j n m k = length-as-mild t l j m k ∙ rw (ne-eqb 25 t (λ e. n (sym e)))
-
-pub good-as-alone : (fs : List Field) (f : Field) → (f .tag ≡ 23 → ⊥) → (f .tag ≡ 25 → ⊥) → (f .tag ≡ 26 → ⊥) → fieldGood fs f ≡ aloneGood fs f
-unfolding mildGood aloneGood
-good-as-alone fs f k n m = good-as-mild fs f k m ∙ rw (ne-eqb (f .tag) 25 n)

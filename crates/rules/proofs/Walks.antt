@@ -24,19 +24,27 @@ use Rattle.rules.proofs.Table.{every-both}
 use Rattle.rules.proofs.FileHeads.{by-value}
 use Rattle.rules.proofs.CardTags.{any-form, no-more, entry-tag, entry-high, next-small}
 
--- which tag may come, and what refuses one that may not; what refuses an entry, and what it is taken as; what refuses an end, and the verdict there
+-- which tag may come, what refuses one that may not, and the lengths that it may have; which value of the card's is in range; what refuses an entry, and what it is
+-- taken as; what refuses an end, and the verdict there
 pub record Judge : Type 0 where
   pub come : (entries : Bool) → List Field → ℕ → Bool
   pub wrong : (entries : Bool) → List Field → ℕ → Refusal
+  pub size : (tag size : ℕ) → Bool
+  pub good : List Field → Field → Bool
   pub entry : Card → Past → Entry → Option Refusal
   pub taken : Card → Past → Entry → Taken
   pub end : Card → Past → ℕ → Option Refusal
   pub verdict : Card → Past → ℕ → FileVerdict
 
+unfoldable pub sizedBy : (size : (tag size : ℕ) → Bool) → (tag : ℕ) → List ℕ → Head
+sizedBy g t [] = cut
+sizedBy g t (h ∷ []) = cut
+sizedBy g t (h ∷ l ∷ bs) = cond (g t (256 * h + l)) (valued t h l bs) badLength
+
 module _ (j : Judge) where
   unfoldable pub headBy : (entries : Bool) → List Field → List ℕ → Head
   headBy b fs [] = cut
-  headBy b fs (t ∷ bs) = cond (j .come b fs t) (sized t bs) (badTag (j .wrong b fs t))
+  headBy b fs (t ∷ bs) = cond (j .come b fs t) (sizedBy (j .size) t bs) (badTag (j .wrong b fs t))
 
   unfoldable pub entryBy : List Field → Past → ℕ → Field → List ℕ → Step
   entryBy fs past at f rest = orRefused at (j .entry (cardOf fs) past (entryOf f)) (goesOn fs (j .taken (cardOf fs) past (entryOf f) ∷ past) (at + sizeOf f) rest)
@@ -44,11 +52,14 @@ module _ (j : Judge) where
   unfoldable pub endBy : List Field → Past → ℕ → Field → List ℕ → Step
   endBy fs past at f rest = orRefused at (j .end (cardOf fs) past (endOf f)) (closing (j .verdict (cardOf fs) past (endOf f)) (at + sizeOf f) rest)
 
+  unfoldable pub cardBy : List Field → Past → ℕ → Field → List ℕ → Step
+  cardBy fs past at f rest = cond (j .good fs f) (goesOn (f ∷ fs) past (at + sizeOf f) rest) (ends (refused 4 0 at 0))
+
   -- a field is an entry, the end, or one of the card, and what it is not is not looked at; a judge that does not know a tag lets it not come
   abbrev pub pick : List Field → Past → ℕ → Field → List ℕ → (entry end : Bool) → Step
   pick fs past at f rest x y = elim x [
     | true ↦ entryBy fs past at f rest
-    | false ↦ elim y [ true ↦ endBy fs past at f rest | false ↦ cardStep fs past at f rest ]
+    | false ↦ elim y [ true ↦ endBy fs past at f rest | false ↦ cardBy fs past at f rest ]
   ]
 
   unfoldable pub byHeadBy : List Field → Past → ℕ → Head → Step
@@ -68,11 +79,20 @@ module _ (j : Judge) where
   unfoldable pub judgedBy : List ℕ → Judged
   judgedBy bs = fileBy (suc (length bs)) [] [] 0 bs
 
+-- where they list the same lengths
+pub same-sized : (g h : (tag size : ℕ) → Bool) (t : ℕ) → ((l : ℕ) → g t l ≡ h t l) → (bs : List ℕ) → sizedBy g t bs ≡ sizedBy h t bs
+unfolding sizedBy
+same-sized g h t e [] = refl
+same-sized g h t e (x ∷ []) = refl
+same-sized g h t e (x ∷ y ∷ bs) = rw (e (256 * x + y))
+
 -- ---- the judge of the definitions
 unfoldable pub defined : Judge
 defined = record {
   come = mayCome;
   wrong = wrongTag;
+  size = lengthGood;
+  good = fieldGood;
   entry = entryRefusal;
   taken = takenFor;
   end = endRefusal;
@@ -85,7 +105,12 @@ defined-step fs past at bs = ap (byHeadBy defined fs past at) (head (begun past)
   where
     head : (b : Bool) (bs : List ℕ) → headBy defined b fs bs ≡ headOf b fs bs
     head b [] = unfold headBy headOf in refl
-    head b (t ∷ bs) = unfold headBy headOf defined in refl
+    head b (t ∷ bs) = unfold headBy headOf defined in ap (λ (h : Head). cond (mayCome b fs t) h (badTag (wrongTag b fs t))) (size bs)
+      where
+        size : (bs : List ℕ) → sizedBy lengthGood t bs ≡ sized t bs
+        size [] = unfold sizedBy sized in refl
+        size (h ∷ []) = unfold sizedBy sized in refl
+        size (h ∷ l ∷ bs) = unfold sizedBy sized in refl
 
     by : (h : Head) → byHeadBy defined fs past at h ≡ byHead fs past at h
     by cut = unfold byHeadBy byHead in refl
@@ -96,7 +121,7 @@ defined-step fs past at bs = ap (byHeadBy defined fs past at) (head (begun past)
         go : (x y : Bool) → pick defined fs past at f rest x y ≡ cond x (entryStep fs past at f rest) (cond y (endStep fs past at f rest) (cardStep fs past at f rest))
         go true y = unfold entryBy defined entryStep pastWith in refl
         go false true = unfold endBy defined endStep acceptedAt in refl
-        go false false = refl
+        go false false = unfold cardBy defined cardStep in refl
 
 -- what a judge says behind a step
 unfoldable pub behind : (List Field → Past → ℕ → List ℕ → Judged) → Past → Step → Judged
@@ -153,9 +178,9 @@ module _ (j : Judge) (P : Past → Type 0) (next : (card : Card) (past : Past) (
     has-closed v n [] = tt
     has-closed v n (b ∷ bs) = tt
 
-    has-card : (f : Field) (rest : List ℕ) → Has (cardStep fs past at f rest)
-    unfolding cardStep
-    has-card f rest = go (fieldGood fs f)
+    has-card : (f : Field) (rest : List ℕ) → Has (cardBy j fs past at f rest)
+    unfolding cardBy
+    has-card f rest = go (j .good fs f)
       where
         go : (x : Bool) → Has (cond x (goesOn (f ∷ fs) past (at + sizeOf f) rest) (ends (refused 4 0 at 0)))
         go true = p
@@ -187,40 +212,40 @@ module _ (j : Judge) (P : Past → Type 0) (next : (card : Card) (past : Past) (
   all-have bytes p = has-file (suc (length bytes)) [] [] 0 bytes p
 
 -- ---- what stands at a place of the file: a field whose tag may come, with a listed length and a whole value, or none
-pub record Sized (f : Field) : Type 0 where
-  pub size : lengthGood (f .tag) (256 * f .high + f .low) ≡ true
+pub record Sized (size : (tag size : ℕ) → Bool) (f : Field) : Type 0 where
+  pub listed : size (f .tag) (256 * f .high + f .low) ≡ true
   pub whole : length (f .value) ≡ 256 * f .high + f .low
 
-data Stands (come : ℕ → Bool) : List ℕ → Head → Type 0 where
-  is-field : (f : Field) (rest : List ℕ) → come (f .tag) ≡ true → Sized f → Stands come (bytesOf f ++ rest) (whole f rest)
-  is-cut : {bs : List ℕ} → Stands come bs cut
-  is-bad-tag : {bs : List ℕ} (x : Refusal) → Stands come bs (badTag x)
-  is-bad-length : {bs : List ℕ} → Stands come bs badLength
+pub data Stands (come : ℕ → Bool) (size : (tag size : ℕ) → Bool) : List ℕ → Head → Type 0 where
+  is-field : (f : Field) (rest : List ℕ) → come (f .tag) ≡ true → Sized size f → Stands come size (bytesOf f ++ rest) (whole f rest)
+  is-cut : {bs : List ℕ} → Stands come size bs cut
+  is-bad-tag : {bs : List ℕ} (x : Refusal) → Stands come size bs (badTag x)
+  is-bad-length : {bs : List ℕ} → Stands come size bs badLength
 
-module _ (come : ℕ → Bool) where
-  valued-stands : (t h l : ℕ) (bs : List ℕ) → come t ≡ true → lengthGood t (256 * h + l) ≡ true → Stands come (t ∷ h ∷ l ∷ bs) (valued t h l bs)
-  valued-stands t h l bs m g = by-value (Stands come) t h l bs full (λ s. is-cut)
+module _ (come : ℕ → Bool) (size : (tag size : ℕ) → Bool) where
+  valued-stands : (t h l : ℕ) (bs : List ℕ) → come t ≡ true → size t (256 * h + l) ≡ true → Stands come size (t ∷ h ∷ l ∷ bs) (valued t h l bs)
+  valued-stands t h l bs m g = by-value (Stands come size) t h l bs full (λ s. is-cut)
     where
-      full : (v rest : List ℕ) → length v ≡ 256 * h + l → Stands come (t ∷ h ∷ l ∷ v ++ rest) (whole (record { tag = t; high = h; low = l; value = v }) rest)
-      full v rest e = unfold bytesOf in is-field (record { tag = t; high = h; low = l; value = v }) rest m (record { size = g; whole = e })
+      full : (v rest : List ℕ) → length v ≡ 256 * h + l → Stands come size (t ∷ h ∷ l ∷ v ++ rest) (whole (record { tag = t; high = h; low = l; value = v }) rest)
+      full v rest e = unfold bytesOf in is-field (record { tag = t; high = h; low = l; value = v }) rest m (record { listed = g; whole = e })
 
-  sized-stands : (t : ℕ) (bs : List ℕ) → come t ≡ true → Stands come (t ∷ bs) (sized t bs)
-  unfolding sized
+  sized-stands : (t : ℕ) (bs : List ℕ) → come t ≡ true → Stands come size (t ∷ bs) (sizedBy size t bs)
+  unfolding sizedBy
   sized-stands t [] m = is-cut
   sized-stands t (h ∷ []) m = is-cut
-  sized-stands t (h ∷ l ∷ bs) m = go (lengthGood t (256 * h + l)) refl
+  sized-stands t (h ∷ l ∷ bs) m = go (size t (256 * h + l)) refl
     where
-      go : (x : Bool) → lengthGood t (256 * h + l) ≡ x → Stands come (t ∷ h ∷ l ∷ bs) (cond x (valued t h l bs) badLength)
+      go : (x : Bool) → size t (256 * h + l) ≡ x → Stands come size (t ∷ h ∷ l ∷ bs) (cond x (valued t h l bs) badLength)
       go true g = valued-stands t h l bs m g
       go false g = is-bad-length
 
-stands : (j : Judge) (b : Bool) (fs : List Field) (bs : List ℕ) → Stands (j .come b fs) bs (headBy j b fs bs)
+pub stands : (j : Judge) (b : Bool) (fs : List Field) (bs : List ℕ) → Stands (j .come b fs) (j .size) bs (headBy j b fs bs)
 unfolding headBy
 stands j b fs [] = is-cut
 stands j b fs (t ∷ bs) = go (j .come b fs t) refl
   where
-    go : (x : Bool) → j .come b fs t ≡ x → Stands (j .come b fs) (t ∷ bs) (cond x (sized t bs) (badTag (j .wrong b fs t)))
-    go true m = sized-stands (j .come b fs) t bs m
+    go : (x : Bool) → j .come b fs t ≡ x → Stands (j .come b fs) (j .size) (t ∷ bs) (cond x (sizedBy (j .size) t bs) (badTag (j .wrong b fs t)))
+    go true m = sized-stands (j .come b fs) (j .size) t bs m
     go false m = is-bad-tag (j .wrong b fs t)
 
 -- ---- up to a place all is of right form: the fields of the card and, behind a whole one, entries; the offset is the number of their bytes
@@ -229,8 +254,14 @@ unfoldable pub anyOf : List Field → Bool
 anyOf [] = false
 anyOf (f ∷ fs) = true
 
-record Place (bytes : List ℕ) (fs : List Field) (past : Past) (at : ℕ) (bs : List ℕ) : Type 0 where
+-- the values of the card have lengths that are listed so
+unfoldable pub AllSized : (size : (tag size : ℕ) → Bool) → List Field → Type 0
+AllSized g [] = Unit {0}
+AllSized g (f ∷ fs) = (g (f .tag) (length (f .value)) ≡ true) × AllSized g fs
+
+record Place (size : (tag size : ℕ) → Bool) (bytes : List ℕ) (fs : List Field) (past : Past) (at : ℕ) (bs : List ℕ) : Type 0 where
   right : CardRight fs
+  sizes : AllSized size fs
   behind : begun past ≡ true → cardWhole fs ≡ true
   es : List Field
   entries : Every (EntryField fs) es
@@ -267,11 +298,12 @@ unfolding anyOf
 any-more [] f = refl
 any-more (x ∷ es) f = refl
 
-module _ {bytes : List ℕ} where
-  place-start : Place bytes [] [] 0 bytes
+module _ {size : (tag size : ℕ) → Bool} {bytes : List ℕ} where
+  place-start : Place size bytes [] [] 0 bytes
   unfolding cardBytes entriesBytes
   place-start = record {
     right = unfold CardRight in tt;
+    sizes = unfold AllSized in tt;
     behind = λ b. absurd (not-begun b);
     es = [];
     entries = unfold Every in tt;
@@ -283,7 +315,7 @@ module _ {bytes : List ℕ} where
       not-begun : begun [] ≡ true → ⊥
       not-begun b = let q : false ≡ true = unfold begun in b in let z : _≡_ {A = ℕ} 0 1 = cc in omega arith
 
-  module _ (fs : List Field) (past : Past) (at : ℕ) (f : Field) (rest : List ℕ) (p : Place bytes fs past at (bytesOf f ++ rest))
+  module _ (fs : List Field) (past : Past) (at : ℕ) (f : Field) (rest : List ℕ) (p : Place size bytes fs past at (bytesOf f ++ rest))
       (form : RightForm (begun past) fs f) where
     -- a field of the card comes before the first entry
     before-entries : ofTrace (f .tag) ≡ false → begun past ≡ false
@@ -293,8 +325,8 @@ module _ {bytes : List ℕ} where
         go true b = absurd (no-more fs f (rw b at form) (p .behind b) o)
         go false b = b
 
-    place-card : ofTrace (f .tag) ≡ false → fieldGood fs f ≡ true → Place bytes (f ∷ fs) past (at + sizeOf f) rest
-    place-card o g = go (p .es) (p .came) (p .split) (p .offset)
+    place-card : ofTrace (f .tag) ≡ false → size (f .tag) (length (f .value)) ≡ true → fieldGood fs f ≡ true → Place size bytes (f ∷ fs) past (at + sizeOf f) rest
+    place-card o s g = go (p .es) (p .came) (p .split) (p .offset)
       where
         b : begun past ≡ false
         b = before-entries o
@@ -303,10 +335,11 @@ module _ {bytes : List ℕ} where
         never p q r = let z : true ≡ false = cc in let y : _≡_ {A = ℕ} 0 1 = cc in omega arith
 
         go : (es : List Field) → begun past ≡ anyOf es → bytes ≡ cardBytes fs ++ (entriesBytes es ++ (bytesOf f ++ rest)) →
-            at ≡ length (cardBytes fs) + length (entriesBytes es) → Place bytes (f ∷ fs) past (at + sizeOf f) rest
+            at ≡ length (cardBytes fs) + length (entriesBytes es) → Place size bytes (f ∷ fs) past (at + sizeOf f) rest
         go (x ∷ es) c e n = absurd (never b c (unfold anyOf in refl))
         go [] c e n = record {
           right = unfold CardRight in (rw b at form, o, g, p .right);
+          sizes = unfold AllSized in (s, p .sizes);
           behind = λ q. absurd (never b refl q);
           es = [];
           entries = unfold Every in tt;
@@ -315,9 +348,10 @@ module _ {bytes : List ℕ} where
           offset = unfold cardBytes entriesBytes sizeOf bytesOf in rw length-append (unfold entriesBytes in omega (arith, n));
         }
 
-    place-entry : ofEntry (f .tag) ≡ true → (e : Taken) → Place bytes fs (e ∷ past) (at + sizeOf f) rest
+    place-entry : ofEntry (f .tag) ≡ true → (e : Taken) → Place size bytes fs (e ∷ past) (at + sizeOf f) rest
     place-entry o e = record {
       right = p .right;
+      sizes = p .sizes;
       behind = λ b. whole-before (begun past) fs (p .right) (f .tag) (entry-high (f .tag) o) (form .tag);
       es = p .es ++ (f ∷ []);
       entries = every-both (EntryField fs) (p .es) (f ∷ []) (p .entries) (unfold Every in (record { form = any-form true fs f (entry-tag (f .tag) o) form; isEntry = o }, tt));
@@ -372,11 +406,17 @@ pub record Enters (j : Judge) (fs : List Field) (past : Past) (f : Field) : Type
   pub isEntry : ofEntry (f .tag) ≡ true
 
 -- ---- two judges over a file, a the newer. `Also` holds at each place that the file comes to, of the fields of the card and the entries that were taken
--- behind these they do the same, and `Also` is kept: with a tag, unless it `Is` so; with an entry that may come; and, behind a whole card, with the end
+-- behind these they do the same, and `Also` is kept: with a tag, unless it `Is` so, its lengths and its range; with an entry that may come; and, behind a whole card,
+-- with the end. What the older one lists and holds to be in range is so still
 pub record Alike (a b : Judge) (Is : (entries : Bool) → List Field → ℕ → Type 0) (Also : List Field → Past → Type 0) (fs : List Field) (past : Past) : Type 0 where
   pub tag : (t : ℕ) → TagTests (a .come (begun past) fs t) (b .come (begun past) fs t) (cardWhole fs) (Is (begun past) fs t)
   pub known : (t : ℕ) → b .come (begun past) fs t ≡ true → mayCome (begun past) fs t ≡ true
   pub wrong : (t : ℕ) → a .wrong (begun past) fs t ≡ b .wrong (begun past) fs t
+  pub size : (t l : ℕ) → b .come (begun past) fs t ≡ true → a .size t l ≡ b .size t l
+  pub listed : (t l : ℕ) → b .come (begun past) fs t ≡ true → b .size t l ≡ true → lengthGood t l ≡ true
+  pub good : (f : Field) → b .come (begun past) fs (f .tag) ≡ true → ofTrace (f .tag) ≡ false → a .good fs f ≡ b .good fs f
+  pub ranged : (f : Field) → b .come (begun past) fs (f .tag) ≡ true → ofTrace (f .tag) ≡ false → b .size (f .tag) (length (f .value)) ≡ true → b .good fs f ≡ true →
+      fieldGood fs f ≡ true
   pub card : (f : Field) → begun past ≡ false → b .come (begun past) fs (f .tag) ≡ true → ofTrace (f .tag) ≡ false → Also (f ∷ fs) past
   pub entry : (f : Field) → Enters b fs past f → a .entry (cardOf fs) past (entryOf f) ≡ b .entry (cardOf fs) past (entryOf f)
   pub taken : (f : Field) → Enters b fs past f → a .taken (cardOf fs) past (entryOf f) ≡ b .taken (cardOf fs) past (entryOf f)
@@ -390,14 +430,14 @@ module _ (a b : Judge) (Is : (entries : Bool) → List Field → ℕ → Type 0)
   abbrev AlsoOrGone : List Field → Past → Type 0
   AlsoOrGone fs past = Also fs past ⊎ Gone past
 
-  module _ (alike : (fs : List Field) (past : Past) → CardRight fs → Also fs past → Alike a b Is AlsoOrGone fs past) (bytes : List ℕ) where
+  module _ (alike : (fs : List Field) (past : Past) → CardRight fs → AllSized (b .size) fs → Also fs past → Alike a b Is AlsoOrGone fs past) (bytes : List ℕ) where
     -- both go on, where all is still so, or both end
     data Same : Step → Step → Type 0 where
-      on : {fs : List Field} {past : Past} {at : ℕ} {rest : List ℕ} → Place bytes fs past at rest → AlsoOrGone fs past → Same (goesOn fs past at rest) (goesOn fs past at rest)
+      on : {fs : List Field} {past : Past} {at : ℕ} {rest : List ℕ} → Place (b .size) bytes fs past at rest → AlsoOrGone fs past → Same (goesOn fs past at rest) (goesOn fs past at rest)
       off : {v : FileVerdict} → Same (ends v) (ends v)
 
     module _ (fs : List Field) (past : Past) (at : ℕ) (q : Also fs past) where
-      entered : (f : Field) (rest : List ℕ) → Place bytes fs past at (bytesOf f ++ rest) → RightForm (begun past) fs f → Alike a b Is AlsoOrGone fs past → Enters b fs past f →
+      entered : (f : Field) (rest : List ℕ) → Place (b .size) bytes fs past at (bytesOf f ++ rest) → RightForm (begun past) fs f → Alike a b Is AlsoOrGone fs past → Enters b fs past f →
           Same (entryBy a fs past at f rest) (entryBy b fs past at f rest)
       unfolding entryBy
       entered f rest p form k n = rw (k .entry f n, k .taken f n) (go (b .entry (cardOf fs) past (entryOf f)) refl)
@@ -419,17 +459,20 @@ module _ (a b : Judge) (Is : (entries : Bool) → List Field → ℕ → Type 0)
           go (c ∷ cs) none e = unfold orRefused closing in off
           go bs (some x) e = unfold orRefused in off
 
-      carded : (f : Field) (rest : List ℕ) → Place bytes fs past at (bytesOf f ++ rest) → RightForm (begun past) fs f → Alike a b Is AlsoOrGone fs past →
-          b .come (begun past) fs (f .tag) ≡ true → ofTrace (f .tag) ≡ false → Same (cardStep fs past at f rest) (cardStep fs past at f rest)
-      unfolding cardStep
-      carded f rest p form k m o = go (fieldGood fs f) refl
+      carded : (f : Field) (rest : List ℕ) → Place (b .size) bytes fs past at (bytesOf f ++ rest) → RightForm (begun past) fs f → Alike a b Is AlsoOrGone fs past →
+          Sized (b .size) f → b .come (begun past) fs (f .tag) ≡ true → ofTrace (f .tag) ≡ false → Same (cardBy a fs past at f rest) (cardBy b fs past at f rest)
+      unfolding cardBy
+      carded f rest p form k s m o = rw (k .good f m o) (go (b .good fs f) refl)
         where
-          go : (x : Bool) → fieldGood fs f ≡ x →
+          long : b .size (f .tag) (length (f .value)) ≡ true
+          long = rw (s .whole) (s .listed)
+
+          go : (x : Bool) → b .good fs f ≡ x →
               Same (cond x (goesOn (f ∷ fs) past (at + sizeOf f) rest) (ends (refused 4 0 at 0))) (cond x (goesOn (f ∷ fs) past (at + sizeOf f) rest) (ends (refused 4 0 at 0)))
-          go true g = on (place-card fs past at f rest p form o g) (k .card f (before-entries fs past at f rest p form o) m o)
+          go true g = on (place-card fs past at f rest p form o long (k .ranged f m o long g)) (k .card f (before-entries fs past at f rest p form o) m o)
           go false g = off
 
-      same-head : {cs : List ℕ} {h : Head} → Stands (b .come (begun past) fs) cs h → Place bytes fs past at cs → Same (byHeadBy a fs past at h) (byHeadBy b fs past at h)
+      same-head : {cs : List ℕ} {h : Head} → Stands (b .come (begun past) fs) (b .size) cs h → Place (b .size) bytes fs past at cs → Same (byHeadBy a fs past at h) (byHeadBy b fs past at h)
       unfolding byHeadBy
       same-head is-cut p = off
       same-head (is-bad-tag x) p = off
@@ -437,10 +480,10 @@ module _ (a b : Judge) (Is : (entries : Bool) → List Field → ℕ → Type 0)
       same-head (is-field f rest m s) p = go (ofEntry (f .tag)) (eqb (f .tag) 33) refl refl
         where
           k : Alike a b Is AlsoOrGone fs past
-          k = alike fs past (p .right) q
+          k = alike fs past (p .right) (p .sizes) q
 
           form : RightForm (begun past) fs f
-          form = record { tag = k .known (f .tag) m; size = s .size; whole = s .whole }
+          form = record { tag = k .known (f .tag) m; size = k .listed (f .tag) _ m (s .listed); whole = s .whole }
 
           behind : 31 < f .tag → cardWhole fs ≡ true
           behind l = whole-before (begun past) fs (p .right) (f .tag) l (form .tag)
@@ -448,7 +491,7 @@ module _ (a b : Judge) (Is : (entries : Bool) → List Field → ℕ → Type 0)
           go : (x y : Bool) → ofEntry (f .tag) ≡ x → eqb (f .tag) 33 ≡ y → Same (pick a fs past at f rest x y) (pick b fs past at f rest x y)
           go true y u v = entered f rest p form k (record { whole = behind (entry-high (f .tag) u); may = m; isEntry = u })
           go false true u v = let t = eqb-true (f .tag) 33 v in ended f rest k (behind (omega (arith, t)))
-          go false false u v = carded f rest p form k m (unfold ofTrace in rw (u, v))
+          go false false u v = carded f rest p form k s m (unfold ofTrace in rw (u, v))
 
     abbrev Parted : Judged → Type 0
     Parted j = MetBy (b .wrong) Is bytes j ⊎ Gone (j .past)
@@ -457,17 +500,17 @@ module _ (a b : Judge) (Is : (entries : Bool) → List Field → ℕ → Type 0)
     Agrees k fs past at bs = (fileBy a k fs past at bs ≡ fileBy b k fs past at bs) ⊎ Parted (fileBy b k fs past at bs)
 
     module _ (k : ℕ) (fs : List Field) (past : Past) (at : ℕ) (q : Also fs past)
-        (further : (fs′ : List Field) (past′ : Past) (at′ : ℕ) (rest : List ℕ) → Place bytes fs′ past′ at′ rest → Also fs′ past′ → Agrees k fs′ past′ at′ rest) where
+        (further : (fs′ : List Field) (past′ : Past) (at′ : ℕ) (rest : List ℕ) → Place (b .size) bytes fs′ past′ at′ rest → Also fs′ past′ → Agrees k fs′ past′ at′ rest) where
       same-step : {s t : Step} → Same s t → (behind (fileBy a k) past s ≡ behind (fileBy b k) past t) ⊎ Parted (behind (fileBy b k) past t)
       unfolding behind
       same-step (on p (inl q)) = further _ _ _ _ p q
       same-step (on p (inr g)) = inr (inr (has-file b Gone keeps k _ _ _ _ g))
       same-step off = inl refl
 
-      same-tag : (bs : List ℕ) → Place bytes fs past at bs → headBy a (begun past) fs bs ≡ headBy b (begun past) fs bs → Agrees (suc k) fs past at bs
+      same-tag : (bs : List ℕ) → Place (b .size) bytes fs past at bs → headBy a (begun past) fs bs ≡ headBy b (begun past) fs bs → Agrees (suc k) fs past at bs
       same-tag bs p e = rw (by-step a k fs past at bs, by-step b k fs past at bs) (unfold stepBy in rw e (same-step (same-head fs past at q (stands b (begun past) fs bs) p)))
 
-      met : (t : ℕ) (rest : List ℕ) → Place bytes fs past at (t ∷ rest) → (b .come (begun past) fs t ≡ false) × (cardWhole fs ≡ true) × Is (begun past) fs t →
+      met : (t : ℕ) (rest : List ℕ) → Place (b .size) bytes fs past at (t ∷ rest) → (b .come (begun past) fs t ≡ false) × (cardWhole fs ≡ true) × Is (begun past) fs t →
           MetBy (b .wrong) Is bytes (fileBy b (suc k) fs past at (t ∷ rest))
       unfolding stepBy headBy byHeadBy behind
       met t rest p n = rw (by-step b k fs past at (t ∷ rest), n .0) (record {
@@ -477,14 +520,22 @@ module _ (a b : Judge) (Is : (entries : Bool) → List Field → ℕ → Type 0)
             ∙ ap (λ (c : Bool). let x = b .wrong c fs t in refused (x .number) (x .rule) (length (cardBytes fs) + length (entriesBytes (p .es))) (x .cycle)) (p .came);
       })
 
-      onward : (bs : List ℕ) → Place bytes fs past at bs → Agrees (suc k) fs past at bs
+      onward : (bs : List ℕ) → Place (b .size) bytes fs past at bs → Agrees (suc k) fs past at bs
       onward [] p = same-tag [] p (unfold headBy in refl)
       onward (t ∷ rest) p = ⊎-elim
-          (λ (e : a .come (begun past) fs t ≡ b .come (begun past) fs t). same-tag (t ∷ rest) p (unfold headBy in rw (e, alike fs past (p .right) q .wrong t)))
+          (λ (e : a .come (begun past) fs t ≡ b .come (begun past) fs t). same-tag (t ∷ rest) p (unfold headBy in rw (e, k′ .wrong t) (same-sizes (b .come (begun past) fs t) refl rest)))
           (λ (n : (b .come (begun past) fs t ≡ false) × (cardWhole fs ≡ true) × Is (begun past) fs t). inr (inl (met t rest p n)))
-          (alike fs past (p .right) q .tag t)
+          (k′ .tag t)
+        where
+          k′ : Alike a b Is AlsoOrGone fs past
+          k′ = alike fs past (p .right) (p .sizes) q
 
-    walk : (k : ℕ) (fs : List Field) (past : Past) (at : ℕ) (bs : List ℕ) → Place bytes fs past at bs → Also fs past → Agrees k fs past at bs
+          same-sizes : (x : Bool) → b .come (begun past) fs t ≡ x → (bs : List ℕ) →
+              cond x (sizedBy (a .size) t bs) (badTag (b .wrong (begun past) fs t)) ≡ cond x (sizedBy (b .size) t bs) (badTag (b .wrong (begun past) fs t))
+          same-sizes true m bs = same-sized (a .size) (b .size) t (λ l. k′ .size t l m) bs
+          same-sizes false m bs = refl
+
+    walk : (k : ℕ) (fs : List Field) (past : Past) (at : ℕ) (bs : List ℕ) → Place (b .size) bytes fs past at bs → Also fs past → Agrees k fs past at bs
     walk zero fs past at bs p q = unfold fileBy in inl refl
     walk (suc k) fs past at bs p q = onward k fs past at q (λ fs′ past′ at′ rest. walk k fs′ past′ at′ rest) bs p
 
@@ -495,18 +546,22 @@ module _ (a b : Judge) (Is : (entries : Bool) → List Field → ℕ → Type 0)
 
 -- where there is no such entry
 module _ (a b : Judge) (Is : (entries : Bool) → List Field → ℕ → Type 0) (Also : List Field → Past → Type 0)
-    (alike : (fs : List Field) (past : Past) → CardRight fs → Also fs past → Alike a b Is Also fs past) (bytes : List ℕ) where
+    (alike : (fs : List Field) (past : Past) → CardRight fs → AllSized (b .size) fs → Also fs past → Alike a b Is Also fs past) (bytes : List ℕ) where
   pub agree : Also [] [] → (judgedBy a bytes ≡ judgedBy b bytes) ⊎ MetBy (b .wrong) Is bytes (judgedBy b bytes)
   agree q = ⊎-elim
       (λ (e : judgedBy a bytes ≡ judgedBy b bytes). inl e)
       (⊎-elim (λ (m : MetBy (b .wrong) Is bytes (judgedBy b bytes)). inr m) (λ (n : ⊥). absurd n))
       (agree-until a b Is Also (λ past. ⊥) (λ card past e n. n) ever bytes q)
     where
-      ever : (fs : List Field) (past : Past) → CardRight fs → Also fs past → Alike a b Is (λ fs past. Also fs past ⊎ ⊥) fs past
-      ever fs past r q = let k = alike fs past r q in record {
+      ever : (fs : List Field) (past : Past) → CardRight fs → AllSized (b .size) fs → Also fs past → Alike a b Is (λ fs past. Also fs past ⊎ ⊥) fs past
+      ever fs past r s q = let k = alike fs past r s q in record {
         tag = k .tag;
         known = k .known;
         wrong = k .wrong;
+        size = k .size;
+        listed = k .listed;
+        good = k .good;
+        ranged = k .ranged;
         card = λ f b m o. inl (k .card f b m o);
         entry = k .entry;
         taken = k .taken;

@@ -1,14 +1,15 @@
 -- The bench card and its starred cases (document 01, "Bench card and its cases"), as files, and a few more that the starred ones do not show: those of low
--- clock-enable, of nWR, of wrong tags, of two parts and of temperature (document 02, One, Two, Three, Nine and Eleven) among them.
-use Prim.Native.Nat.{ℕ, suc, _-_}
+-- clock-enable, of nWR, of wrong tags, of periods in fs, of two parts and of temperature (document 02, One to Four, Nine and Eleven) among them.
+use Prim.Native.Nat.{ℕ, suc, _-_, _/_}
 use mathlib.Core.Path.{_≡_}
 use mathlib.Core.Bool.{Bool, true, false}
 use mathlib.Core.List.{List, [], _∷_, _++_}
 use mathlib.Core.Option.{Option, none, some}
 use lib.Dec.{ltb}
 use lib.IntN.{ℤ, pos, negsuc}
-use lib.ListN.{length, take}
+use lib.ListN.{length, take, drop}
 use Rattle.rules.specs.Card.{Timing, Card}
+use Rattle.rules.specs.Units.{femto}
 use Rattle.rules.specs.Commands.{Command, nop, mrw, mrr, refpb, refab, act, rd, wr, pre, prea}
 use Rattle.rules.specs.Pins.{good, decode, enabled, encode, encodePair}
 use Rattle.rules.specs.Levels.{plain, readPair}
@@ -26,11 +27,11 @@ unfoldable pub onlyIf : Bool → Timing → Timing
 onlyIf true x = x
 onlyIf false x = timing 0 0
 
--- with another period, starting MR2 and tREFI, with tags 19 to 22 if it sleeps, with tag 23 if there is a starting MR1, with tag 25 and this gap if it is of
+-- with another period in ps, starting MR2 and tREFI, with tags 19 to 22 if it sleeps, with tag 23 if there is a starting MR1, with tag 25 and this gap if it is of
 -- two parts, and with tag 26 unless that is 0
 unfoldable pub benchWith : (period mr2 trefi : ℕ) → (sleeps : Bool) → (mr1 : Option ℕ) → (paired : Bool) → (gap raise : ℕ) → Card
 benchWith p v i s m d g r = record {
-  period = p;
+  period = femto p;
   mr2 = v;
   groups = 8192;
   trefi = i;
@@ -95,7 +96,7 @@ startField (some v) = fieldBytes 23 (bigEndian 1 v)
 
 unfoldable pub cardFile : Card → List ℕ
 cardFile card =
-    fieldBytes 1 (bigEndian 4 (card .period)) ++
+    fieldBytes 1 (bigEndian 4 (card .period / 1000)) ++
     fieldBytes 2 (bigEndian 1 (card .mr2)) ++
     fieldBytes 3 (bigEndian 2 (card .groups)) ++
     fieldBytes 4 (bigEndian 4 (card .trefi)) ++
@@ -567,3 +568,56 @@ ordering =
     judges (cardFile bench ++ entriesFile (nop at 0 ∷ []) ++ (31 ∷ [])) (refused 17 33 145 0) ∷
     -- behind the end no tag is looked at
     judges (cardFile bench ++ endFile 20 ++ (0 ∷ [])) (refused 12 0 142 0) ∷ []
+
+-- ---- periods in fs: the bench card with an 8-byte period, by which the first entry stands at offset 139
+unfoldable pub fine : (period : ℕ) → Card → List Entry → ℕ → List ℕ
+fine p card es end = fieldBytes 1 (bigEndian 8 p) ++ drop 7 (file card es end)
+
+-- 933 MHz: tWTR is 7 cycles, not 8 as with 1071 ps, tRC 56, not 57, and I is 3638
+unfoldable pub at933 : List Entry → ℕ → List ℕ
+at933 = fine 1_071_811 (benchAt 1071 0x1c)
+
+unfoldable pub refined : List Case
+refined =
+    judges (at933 (act 0 0 at 0 ∷ wr 0 0 false at 17 ∷ rd 0 0 false at 36 ∷ []) 60) (refused 10 14 159 37) ∷
+    judges (at933 (act 0 0 at 0 ∷ wr 0 0 false at 17 ∷ rd 0 0 false at 37 ∷ []) 60) (accepts 3 0 (pos 0)) ∷
+    judges (file (benchAt 1071 0x1c) (act 0 0 at 0 ∷ wr 0 0 false at 17 ∷ rd 0 0 false at 37 ∷ []) 60) (refused 10 14 155 38) ∷
+    judges (at933 (act 0 0 at 0 ∷ rd 0 0 true at 17 ∷ act 0 0 at 55 ∷ []) 60) (refused 10 9 159 56) ∷
+    judges (at933 (act 0 0 at 0 ∷ rd 0 0 true at 17 ∷ act 0 0 at 56 ∷ []) 60) (accepts 3 0 (pos 0)) ∷
+    judges (at933 [] 32_741) (accepts 0 0 (pos 8)) ∷
+    judges (at933 [] 32_742) (refused 11 19 139 32_742) ∷
+    -- four times tREFI is 14,554 cycles behind the due at 3638, a quarter 909
+    judges (at933 (0b001 sets 0 ∷ []) 18_191) (accepts 0 0 (pos 1)) ∷
+    judges (at933 (0b001 sets 0 ∷ []) 18_192) (accepts 0 0 (pos 2)) ∷
+    judges (at933 (0b101 sets 0 ∷ []) 8_180) (accepts 0 0 (pos 8)) ∷
+    judges (at933 (0b101 sets 0 ∷ []) 8_181) (refused 11 19 147 8_181) ∷
+    -- 19,875 ps are 18 of these periods, and 19 of 1104 ps
+    judges (fine 1_104_167 (benchWith 1104 0x1c 3_900_000 false none false 0 1875) (0b110 sets 0 ∷ act 0 0 at 1 ∷ rd 0 0 false at 18 ∷ []) 60) (refused 10 7 164 19) ∷
+    judges (fine 1_104_167 (benchWith 1104 0x1c 3_900_000 false none false 0 1875) (0b110 sets 0 ∷ act 0 0 at 1 ∷ rd 0 0 false at 19 ∷ []) 60) (accepts 2 0 (pos 0)) ∷
+    -- whole ps in 8 bytes
+    judges (fine 1_250_000 bench (act 0 0 at 0 ∷ rd 0 0 false at 14 ∷ []) 20) (refused 10 7 149 15) ∷
+    -- lengths
+    judges (fieldBytes 1 (bigEndian 3 1250)) (refused 3 0 0 0) ∷
+    judges (fieldBytes 1 (bigEndian 5 1250)) (refused 3 0 0 0) ∷
+    judges (fieldBytes 1 (bigEndian 7 1_250_000)) (refused 3 0 0 0) ∷
+    judges (fieldBytes 1 (bigEndian 9 1_250_000)) (refused 3 0 0 0) ∷
+    judges (fieldBytes 1 (take 7 (bigEndian 8 1_250_000))) (refused 3 0 0 0) ∷
+    judges (1 ∷ 0 ∷ 8 ∷ take 7 (bigEndian 8 1_250_000)) (refused 1 0 0 0) ∷
+    judges (cardFile bench ++ fieldBytes 33 (bigEndian 8 20)) (refused 3 0 135 0) ∷
+    -- ranges
+    judges (fieldBytes 1 (bigEndian 8 937_999)) (refused 4 0 0 0) ∷
+    judges (fieldBytes 1 (bigEndian 8 938_000)) (refused 1 0 11 0) ∷
+    judges (fieldBytes 1 (bigEndian 8 100_000_000)) (refused 1 0 11 0) ∷
+    judges (fieldBytes 1 (bigEndian 8 100_000_001)) (refused 4 0 0 0) ∷
+    judges (fieldBytes 1 (1 ∷ bigEndian 7 1_250_000)) (refused 4 0 0 0) ∷
+    judges (fieldBytes 1 (0 ∷ 0 ∷ 0 ∷ 1 ∷ bigEndian 4 1_250_000)) (refused 4 0 0 0) ∷
+    judges (fieldBytes 1 (255 ∷ 255 ∷ 255 ∷ 255 ∷ 255 ∷ 255 ∷ 255 ∷ 255 ∷ [])) (refused 4 0 0 0) ∷
+    -- one fs below a row's least period, and at it: the starting MR2, and MRW
+    judges (fine 1_070_999 (benchAt 1071 0x1c) [] 20) (refused 4 0 11 0) ∷
+    judges (fine 1_071_000 (benchAt 1071 0x1c) [] 20) (accepts 0 0 (pos 0)) ∷
+    judges (fine 1_249_999 (benchAt 1250 0x1c) (mrw 2 0x1a at 0 ∷ []) 20) (refused 9 0 139 0) ∷
+    judges (fine 1_250_000 (benchAt 1250 0x1c) (mrw 2 0x1a at 0 ∷ []) 20) (accepts 1 0 (pos 0)) ∷
+    -- tREFI below the period by one fs, and not below it: then I is 1
+    judges (fine 1_250_001 (benchWith 1250 0x1a 1250 false none false 0 0) [] 8) (refused 4 0 20 0) ∷
+    judges (fine 1_250_000 (benchWith 1250 0x1a 1250 false none false 0 0) [] 8) (accepts 0 0 (pos 8)) ∷
+    judges (fine 1_250_001 (benchWith 1250 0x1a 1251 false none false 0 0) [] 9) (refused 11 19 139 9) ∷ []

@@ -6,7 +6,9 @@ use mathlib.Core.List.{List, [], _∷_}
 use mathlib.Core.Option.{Option, none, some}
 use lib.Dec.{leb, ltb, eqb}
 use lib.ListN.{length, take, drop}
+use Rattle.rules.specs.Lists.{isOneOf}
 use Rattle.rules.specs.Card.{Timing, Card}
+use Rattle.rules.specs.Units.{femto}
 use Rattle.rules.specs.Registers.{mr2Good}
 use Rattle.rules.specs.Ranges.{periodGood, groupsGood, trefiGood, timingGood, startGood, raiseGood}
 use Rattle.rules.specs.Entries.{Body, pins, mr4, Entry}
@@ -127,25 +129,29 @@ unfoldable pub wrongTag : (entries : Bool) → List Field → ℕ → Refusal
 wrongTag entries fs t = wrongAfter entries (lastTag fs) (has (sleepTags .first) fs) t
 
 -- ---- lengths
--- a tag and a length that it may have
+-- a tag and the lengths that it may have
 pub record Listed : Type 0 where
   pub tag : ℕ
-  pub size : ℕ
+  pub sizes : List ℕ
 
 infix 90 _of_
 unfoldable pub _of_ : ℕ → ℕ → Listed
-t of l = record { tag = t; size = l }
+t of l = record { tag = t; sizes = l ∷ [] }
+
+infix 90 _of_or_
+unfoldable pub _of_or_ : ℕ → ℕ → ℕ → Listed
+t of k or l = record { tag = t; sizes = k ∷ l ∷ [] }
 
 unfoldable pub lengths : List Listed
 lengths =
-    1 of 4 ∷ 2 of 1 ∷ 3 of 2 ∷ 4 of 4 ∷
+    1 of 4 or 8 ∷ 2 of 1 ∷ 3 of 2 ∷ 4 of 4 ∷
     5 of 5 ∷ 6 of 5 ∷ 7 of 5 ∷ 8 of 5 ∷ 9 of 5 ∷ 10 of 5 ∷ 11 of 5 ∷ 12 of 5 ∷ 13 of 5 ∷ 14 of 5 ∷ 15 of 5 ∷ 16 of 5 ∷ 17 of 5 ∷ 18 of 5 ∷
     19 of 5 ∷ 20 of 5 ∷ 21 of 5 ∷ 22 of 5 ∷ 23 of 1 ∷ 25 of 1 ∷ 26 of 4 ∷
     32 of 7 ∷ 33 of 4 ∷ 34 of 5 ∷ []
 
 unfoldable pub isListed : List Listed → (tag size : ℕ) → Bool
 isListed [] t l = false
-isListed (x ∷ xs) t l = (eqb (x .tag) t && eqb (x .size) l) || isListed xs t l
+isListed (x ∷ xs) t l = (eqb (x .tag) t && isOneOf (x .sizes) l) || isListed xs t l
 
 unfoldable pub lengthGood : (tag size : ℕ) → Bool
 lengthGood = isListed lengths
@@ -186,13 +192,20 @@ numberAt t fs = number (valueOf t fs)
 unfoldable pub timingAt : ℕ → List Field → Timing
 timingAt t fs = timingOf (valueOf t fs)
 
+-- the period in fs: a value of 8 bytes has it, one of 4 has it in ps
+unfoldable pub periodOf : List ℕ → ℕ
+periodOf v = cond (eqb (length v) 8) (number v) (femto (number v))
+
+unfoldable pub periodAt : List Field → ℕ
+periodAt fs = periodOf (valueOf 1 fs)
+
 -- where the card has this tag
 unfoldable pub numberIf : ℕ → List Field → Option ℕ
 numberIf t fs = cond (has t fs) (some (numberAt t fs)) none
 
 unfoldable pub cardOf : List Field → Card
 cardOf fs = record {
-  period = numberAt 1 fs;
+  period = periodAt fs;
   mr2 = numberAt 2 fs;
   groups = numberAt 3 fs;
   trefi = numberAt 4 fs;
@@ -230,10 +243,10 @@ unfoldable pub fieldGood : List Field → Field → Bool
 fieldGood fs f =
     let t = f .tag in
     let x = number (f .value) in
-    cond (eqb t 1) (periodGood x)
-    (cond (eqb t 2) (mr2Good (numberAt 1 fs) x)
+    cond (eqb t 1) (periodGood (periodOf (f .value)))
+    (cond (eqb t 2) (mr2Good (periodAt fs) x)
     (cond (eqb t 3) (groupsGood x)
-    (cond (eqb t 4) (trefiGood (numberAt 1 fs) x)
+    (cond (eqb t 4) (trefiGood (periodAt fs) x)
     (cond (eqb t 23) (startGood x)
     (cond (eqb t 25) (gapGood fs x)
     (cond (eqb t 26) (raiseGood x) (timingGood (timingOf (f .value)))))))))

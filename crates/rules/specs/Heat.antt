@@ -4,7 +4,7 @@ use mathlib.Core.Bool.{Bool, cond, _&&_, _||_}
 use lib.Dec.{leb, eqb}
 use Rattle.rules.specs.Bits.{bits}
 use Rattle.rules.specs.Card.{Timing, Card}
-use Rattle.rules.specs.Units.{Delays, delaysOf}
+use Rattle.rules.specs.Units.{femto, Delays, delaysOf}
 
 -- OP2-0; OP7-3 are ignored
 unfoldable pub heat : ℕ → ℕ
@@ -24,7 +24,7 @@ quarters c = cond (eqb c 0b001) 16 (cond (eqb c 0b010) 8 (cond (eqb c 0b100) 2 (
 
 -- I: the quarters over the period, rounded down, and never below one cycle
 unfoldable pub intervalAt : Card → (mr4 : ℕ) → ℕ
-intervalAt card mr4 = max 1 (card .trefi * quarters (heat mr4) / (card .period * 4))
+intervalAt card mr4 = max 1 (femto (card .trefi) * quarters (heat mr4) / (card .period * 4))
 
 -- ---- code 110 makes tRCD, both tRP, tRAS and tRRD longer; tRC is made of two of them
 unfoldable pub isHot : (mr4 : ℕ) → Bool

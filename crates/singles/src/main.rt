@@ -55,7 +55,7 @@ fn moves(rec: Record, part: u32, to: u32) -> Record {
 }
 
 fn called(rec: Record, case: u32, part: u32, what: u32, cycle: u32) -> Record {
-    if places::PERIOD <= what {
+    if places::PERIOD_LOW <= what {
         return places::put(rec, part, what, cycle);
     }
     if what == table::FRESH {

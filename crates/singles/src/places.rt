@@ -11,13 +11,14 @@ use bank::Once;
 use bank::Record;
 use bank::Share;
 use card::Card;
+use card::Femtoseconds;
 use card::Modes;
 use ledger::Ledger;
 use ledger::Pace;
 use pins::Level;
 
-// The card. Its eighteen durations stand from DURATION on and its floors from FLOOR on; those that the cases use have names.
-pub const PERIOD: u32 = 0x3000000;
+// The card. Its eighteen durations stand from DURATION on and its floors from FLOOR on; those that the cases use have names. Of the period here is the lower half.
+pub const PERIOD_LOW: u32 = 0x3000000;
 
 pub const STARTING_MR2: u32 = 0x3000001;
 
@@ -167,6 +168,9 @@ pub const NOTED_MR1_WR0: u32 = 0x3000054;
 
 pub const NOTED_MR1_WRA0: u32 = 0x3000055;
 
+// The upper half of the period.
+pub const PERIOD_HIGH: u32 = 0x3000056;
+
 fn byte(value: u32) -> u8 {
     (value % 256) as u8
 }
@@ -263,10 +267,26 @@ fn into_timings(card: Card, place: u32, value: u32) -> Card {
     next
 }
 
+// Of two halves the upper one comes first: the lower one is added to it.
+fn upper(value: u32) -> u64 {
+    value as u64 * 4294967296
+}
+
+fn joined(old: u64, value: u32) -> u64 {
+    old / 4294967296 * 4294967296 + value as u64
+}
+
 fn into_card(card: Card, place: u32, value: u32) -> Card {
     let mut next = into_timings(card, place, value);
     match place {
-        PERIOD => next.period = value,
+        PERIOD_HIGH => {
+            let period = Femtoseconds(upper(value));
+            next.period = period;
+        }
+        PERIOD_LOW => {
+            let period = Femtoseconds(joined(card.period.0, value));
+            next.period = period;
+        }
         STARTING_MR2 => next.mr2 = byte(value),
         GROUPS => next.groups = (value % 65536) as u16,
         TREFI => next.trefi = value,
@@ -416,12 +436,11 @@ fn into_last(last: Once, place: u32, value: u32) -> Once {
     }
 }
 
-// The upper half comes first: the lower one is added to it.
 fn into_pace(pace: Pace, place: u32, value: u32) -> Pace {
     let mut next = pace;
     match place {
-        NEXT_HIGH => next.next = value as u64 * 4294967296,
-        NEXT_LOW => next.next = pace.next / 4294967296 * 4294967296 + value as u64,
+        NEXT_HIGH => next.next = upper(value),
+        NEXT_LOW => next.next = joined(pace.next, value),
         SENSED_MR4 => next.mr4 = byte(value),
         _ => {}
     }

@@ -64,7 +64,7 @@ module _ (q : Bool) (room : ℕ) (st : State) (bs : List ℕ) {old new after : L
   call-runs run = rw (p .state, p .rest, put-is _ p) (call run room)
 
   -- what a call that asks for more bytes leaves is less than one field, so that there is room to read behind it
-  pub call-fits : (size : ℕ) → length bs ≤ size → 10 ≤ size → Fits r size
+  pub call-fits : (size : ℕ) → length bs ≤ size → 11 ≤ size → Fits r size
   call-fits size h l = (
     omega (arith, left-fits _ p),
     (λ e. omega (arith, p .have, left-short q room st bs (read-more (heardOf q room st bs .what) (sym (p .next) ∙ e)))),

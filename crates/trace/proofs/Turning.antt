@@ -90,7 +90,7 @@ module _ (q : Bool) (at : Turn) (buf : List ℕ) (h : at .have ≤ length buf) w
     call-stands run Full e = call-runs q room (at .state) rest p run
     call-stands run (Over v) e = rw (p .ended, put-is _ p) (over-prints q room run v e)
 
-    pub call-goes : at .next ≡ Judge → 10 ≤ length buf → length after ≡ length buf → Goes q at buf r after new
+    pub call-goes : at .next ≡ Judge → 11 ≤ length buf → length after ≡ length buf → Goes q at buf r after new
     call-goes e l k = (
       rw k (call-fits q room (at .state) rest p (length buf) (omega (arith, length-take-le (at .have) buf h)) l),
       (

@@ -137,7 +137,7 @@ fn tell(at: Turn, out: &mut [u8], verdict: Verdict) -> Turn
 // `stands` says what is true after it of all that was read and printed so far.
 pub fn one_turn(at: Turn, buf: &mut [u8], out: &mut [u8], quiet: bool) -> Turn
     requires { ⌜ Fits at (length (now buf)) ⌝ }
-    requires { ⌜ (10 ≤ length (now buf)) × (64 ≤ length (now out)) ⌝ }
+    requires { ⌜ (11 ≤ length (now buf)) × (64 ≤ length (now out)) ⌝ }
     ensures fits { λ r. ⌜ Fits r (length (now (buf .exit))) ⌝ }
     ensures wrote { λ r. ⌜ r .wrote ≤ length (now (out .exit)) ⌝ }
     ensures stands { λ r. ⌜ Turned quiet at (now (buf .entry)) r (now (buf .exit)) (now (out .exit)) ⌝ }

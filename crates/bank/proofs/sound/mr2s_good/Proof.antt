@@ -13,7 +13,7 @@ mr2-good-requires c κs = search needs
 returns : tie.Need-returns
 returns c =
     rw (
-      mr2s-are (c .before .before .args .card) (c .before .before .args .x),
+      mr2s-are (c .before .before .before .args .card) (c .before .before .before .args .x),
       sym (c .before .mr2-good .ensures) ∙ not-true _ (c .if1 .taken),
     )
 
@@ -37,7 +37,7 @@ returns-2 : tie.Need-returns-2
 returns-2 c =
     let e = c .before .before .before .before in
     rw (
-      mr2s-are (e .before .before .args .card) (e .before .before .args .x),
+      mr2s-are (e .before .before .before .args .card) (e .before .before .before .args .x),
       passed (e .before .mr2-good .ensures) (e .if1 .left),
       c .before .before .before .note-good .ensures,
       c .before .before .note-good2 .ensures,

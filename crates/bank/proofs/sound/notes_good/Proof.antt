@@ -13,7 +13,7 @@ use Rattle.bank.proofs.sound.notes_good.Statement.{statement}
 use Rattle.bank.proofs.sound.notes_good.Tie as tie
 
 abbrev Inv-loop : tie.InvT-loop
-Inv-loop period now x i₀ i = (i ≤ 8) × (notesGood period (x .seen) (x .modes) ≡ onward (λ k. noteGood period (getD (x .seen) k false) (getD (x .modes) k noModes .mr2)) i (8 - i))
+Inv-loop period now x i₀ i = (i ≤ 8) × (notesGood (period .0) (x .seen) (x .modes) ≡ onward (λ k. noteGood (period .0) (getD (x .seen) k false) (getD (x .modes) k noModes .mr2)) i (8 - i))
 
 abbrev μ-loop : tie.MeasureT-loop
 μ-loop period now x i₀ i = 8 - i

@@ -12,20 +12,23 @@ returns : tie.Need-returns
 unfolding cardGood cardOf good
 returns c =
     let k = c .before in
-    let t = k .before .before .before in
-    let s = t .before .before .before .before in
+    let t = k .before .before .before .before in
+    let s = t .before .before .before .before .before in
     let card = s .before .before .args .card in
     rw (
       s .before .value-good .ensures,
       s .mr2-good .ensures,
-      t .before .before .value-good2 .ensures,
+      t .before .before .before .value-good2 .ensures,
       t .before .value-good3 .ensures,
       t .timings-good .ensures,
       k .before .value-good4 .ensures,
       c .mr1-good .ensures,
-      start-good (card .programmed) (card .mr1) (omega (arith, k .struct-known3 .given .1 .1 .1 .1 .1 .1 .1 .1 .0)),
-      le-leb (card .gap) 255 (omega (arith, k .struct-known3 .given .1 .1 .1 .1 .1 .1 .1 .1 .1 .1 .0)),
+      start-good (card .programmed) (card .mr1) (omega (arith, k .struct-known5 .given .1 .1 .1 .1 .1 .1 .1 .1 .0)),
+      le-leb (card .gap) 255 (omega (arith, k .struct-known5 .given .1 .1 .1 .1 .1 .1 .1 .1 .1 .1 .0)),
     )
+
+cast-raise : tie.Need-cast-value-good-3
+cast-raise c = omega (arith, c .struct-known4 .given .1 .1 .1 .1 .1 .1 .1 .1 .1 .1 .1 .0)
 
 pub in-range-spec : {M : Type 1} → statement M
 in-range-spec =
@@ -35,8 +38,10 @@ in-range-spec =
     (λ c κs. search needs)
     (λ c. search needs)
     (λ c κs. search needs)
+    (λ c. search needs)
     (λ c κs. search needs)
     (λ c κs. search needs)
+    cast-raise
     (λ c κs. search needs)
     (λ c κs. search needs)
     returns)

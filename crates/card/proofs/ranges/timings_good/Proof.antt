@@ -43,6 +43,7 @@ timings-good-spec =
     loop-holds
     (λ c. omega arith)
     (λ c. omega arith)
+    (λ c. search needs)
     (λ c. omega arith)
     (λ c κs. search needs)
     returns

@@ -3,7 +3,7 @@ use native.Mathlib.Omega.{arith}
 use borrow.Author.Tests.{le-ltb, le-leb, lt-leb, eq-eqb, ne-eqb}
 use borrow.Author.Needs.{needs}
 use Rattle.rules.specs.Registers.{mr2Good}
-use Rattle.rules.specs.Ranges.{periodGood, groupsGood, trefiGood, startGood, raiseGood}
+use Rattle.rules.specs.Ranges.{periodGood, groupsGood, startGood, raiseGood}
 use Rattle.card.specs.Reading.{good}
 use Rattle.card.proofs.ranges.value_good.Statement.{statement}
 use Rattle.card.proofs.ranges.value_good.Tie as tie
@@ -26,8 +26,8 @@ unfolding good groupsGood
 returns-4 c = c .within2 .ensures ∙ rw (c .before .if4 .taken)
 
 returns-5 : tie.Need-returns-5
-unfolding good trefiGood
-returns-5 c = c .within3 .ensures ∙ rw (c .before .if5 .taken)
+unfolding good
+returns-5 c = c .trefi-good .ensures ∙ rw (c .before .if5 .taken)
 
 returns-6 : tie.Need-returns-6
 unfolding good startGood

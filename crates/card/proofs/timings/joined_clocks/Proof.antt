@@ -10,11 +10,11 @@ use Rattle.card.proofs.timings.joined_clocks.Tie as tie
 returns : tie.Need-returns
 unfolding rowCycle hotCard longer timingIn cardOf raisedBy raisedIn
 returns c =
-    let s = c .before .before .before .before .before .before in
+    let s = c .before .before .before .before .before in
     let p = s .timing2 .ensures in
     let r = s .before .timing .ensures in
     c .least-clocks .ensures
-    ∙ rw (r .duration-is, r .floor-is, p .duration-is, p .floor-is, c .before .picoseconds .ensures .0)
+    ∙ rw (r .duration-is, r .floor-is, p .duration-is, p .floor-is)
 
 pub joined-clocks-spec : {M : Type 1} → statement M
 joined-clocks-spec =
@@ -24,6 +24,5 @@ joined-clocks-spec =
     (λ c κs. search needs)
     (λ c. search needs)
     (λ c. search needs)
-    (λ c κs. search needs)
     (λ c κs. search needs)
     returns)

@@ -4,7 +4,7 @@ use native.Mathlib.Omega.{arith}
 use lib.ListN.{length, drop, drop-of-length-le}
 use borrow.Author.Needs.{needs}
 use Rattle.rules.specs.Form.{number, numberFrom}
-use Rattle.card.proofs.Numbers.{next-byte, one-more, four-fit}
+use Rattle.card.proofs.Numbers.{next-byte, one-more, bytes-fit}
 use Rattle.card.proofs.values.number.Statement.{statement}
 use Rattle.card.proofs.values.number.Tie as tie
 
@@ -19,10 +19,10 @@ unfolding number
 loop-holds c = (omega arith, omega arith, refl)
 
 mul-x : tie.Need-mul-x Inv-loop μ-loop
-mul-x c = let l = c .before .loop in omega (arith, four-fit (l .i + 1) _ (omega arith) (one-more (l .i) (l .x) 0 (l .inv .1) (omega arith)))
+mul-x c = let l = c .before .loop in omega (arith, bytes-fit 8 (l .i + 1) _ (omega arith) (one-more (l .i) (l .x) 0 (l .inv .1) (omega arith)))
 
 add-x : tie.Need-add-x Inv-loop μ-loop
-add-x c = let l = c .before .before .before .loop in omega (arith, four-fit (l .i + 1) _ (omega arith) (one-more (l .i) (l .x) (c .wide .result) (l .inv .1) (omega arith)))
+add-x c = let l = c .before .before .before .loop in omega (arith, bytes-fit 8 (l .i + 1) _ (omega arith) (one-more (l .i) (l .x) (c .wide .result) (l .inv .1) (omega arith)))
 
 loop-again : tie.Need-loop-again Inv-loop μ-loop
 loop-again c =
@@ -33,7 +33,9 @@ returns : tie.Need-returns Inv-loop μ-loop
 unfolding numberFrom
 returns c =
     let l = c .before .loop in
-    sym (l .inv .2 ∙ rw (drop-of-length-le (c .before .before .before .args .bytes .now) {i = l .i} (omega arith)))
+    let bytes = c .before .before .before .args .bytes .now in
+    let e : l .i ≡ length bytes = omega arith in
+    (sym (l .inv .2 ∙ rw (drop-of-length-le bytes {i = l .i} (omega arith))), rw (← e) (l .inv .1))
 
 pub number-spec : {M : Type 1} → statement M
 number-spec =

@@ -16,7 +16,7 @@ shift-requires c κs =
     let s = f .before .before .before .before in
     (used-there 0 (s .args .state) (s .args .have) _ (s .pre .0) (f .feed .ensures), s .pre .0)
 
-below : {n size : ℕ} → n ≡ 0 → 10 ≤ size → n < size
+below : {n size : ℕ} → n ≡ 0 → 11 ≤ size → n < size
 below e h = omega arith
 
 returns : tie.Need-returns
