@@ -183,12 +183,19 @@ coarse-start card e =
 unfoldable pub Short : List Field → Type 0
 Short fs = eqb (length (valueOf 1 fs)) 8 ≡ false
 
+short-next : (f : Field) (fs : List Field) → (f .tag ≡ 1 → length (f .value) ≡ 8 → ⊥) → Short fs → Short (f ∷ fs)
+unfolding Short valueOf
+short-next f fs n s = ⊎-elim
+    (λ (q : (f .tag ≡ 1) × (eqb (f .tag) 1 ≡ true)). rw (q .1) (ne-eqb (length (f .value)) 8 (n (q .0))))
+    (λ (q : (f .tag ≡ 1 → ⊥) × (eqb (f .tag) 1 ≡ false)). rw (q .1) s)
+    (eq-cases (f .tag) 1)
+
 short-period : (fs : List Field) → Short fs → cardOf fs .period ≡ femto (numberAt 1 fs)
 unfolding Short cardOf periodAt periodOf numberAt
 short-period fs s = rw s
 
 -- their lengths
-pub length-as-coarse : (t l : ℕ) → ((t ≡ 1) × (l ≡ 8) → ⊥) → lengthGood t l ≡ isListed coarseLengths t l
+length-as-coarse : (t l : ℕ) → ((t ≡ 1) × (l ≡ 8) → ⊥) → lengthGood t l ≡ isListed coarseLengths t l
 unfolding lengthGood isListed isOneOf lengths coarseLengths _of_ _of_or_
 length-as-coarse t l n = ⊎-elim
     (λ (q : (t ≡ 1) × (eqb t 1 ≡ true)). rw (q .0, ne-eqb 8 l (λ e. n (q .0, sym e))))
@@ -200,19 +207,16 @@ unfolding isListed isOneOf coarseLengths _of_
 never-eight = refl
 
 -- where 8 is not listed for tag 1, no period has 8 bytes
-pub sized-short : (size : (tag size : ℕ) → Bool) → size 1 8 ≡ false → (fs : List Field) → AllSized size fs → Short fs
-unfolding Short AllSized valueOf
-sized-short size n [] s = refl
-sized-short size n (f ∷ fs) s = ⊎-elim
-    (λ (q : (f .tag ≡ 1) × (eqb (f .tag) 1 ≡ true)). rw (q .1) (ne-eqb (length (f .value)) 8 (λ e. eight (q .0) e)))
-    (λ (q : (f .tag ≡ 1 → ⊥) × (eqb (f .tag) 1 ≡ false)). rw (q .1) (unfold Short in sized-short size n fs (s .1)))
-    (eq-cases (f .tag) 1)
-  where
-    eight : f .tag ≡ 1 → length (f .value) ≡ 8 → ⊥
-    eight t l = let z : true ≡ false = sym (rw (t, l) at (s .0)) ∙ n in let y : _≡_ {A = ℕ} 0 1 = cc in omega arith
+not-eight : (size : (tag size : ℕ) → Bool) → size 1 8 ≡ false → (t l : ℕ) → size t l ≡ true → t ≡ 1 → l ≡ 8 → ⊥
+not-eight size n t l s e k = let z : true ≡ false = sym (rw (e, k) at s) ∙ n in let y : _≡_ {A = ℕ} 0 1 = cc in omega arith
+
+sized-short : (size : (tag size : ℕ) → Bool) → size 1 8 ≡ false → (fs : List Field) → AllSized size fs → Short fs
+unfolding AllSized
+sized-short size n [] s = unfold Short valueOf in refl
+sized-short size n (f ∷ fs) s = short-next f fs (not-eight size n (f .tag) (length (f .value)) (s .0)) (sized-short size n fs (s .1))
 
 -- and their ranges
-pub good-as-coarse : (fs : List Field) (f : Field) → Short fs → (f .tag ≡ 1 → length (f .value) ≡ 8 → ⊥) → fieldGood fs f ≡ coarseGood fs f
+good-as-coarse : (fs : List Field) (f : Field) → Short fs → (f .tag ≡ 1 → length (f .value) ≡ 8 → ⊥) → fieldGood fs f ≡ coarseGood fs f
 unfolding fieldGood coarseGood
 good-as-coarse fs f s n = ⊎-elim
     (λ (q : (f .tag ≡ 1) × (eqb (f .tag) 1 ≡ true)). rw (q .1, of-period (f .value) (n (q .0))))
@@ -233,17 +237,11 @@ good-as-coarse fs f s n = ⊎-elim
 
 -- for an older judge: what it lists, and what it holds to be in range, is so still
 pub coarse-listed : (t l : ℕ) → isListed coarseLengths t l ≡ true → lengthGood t l ≡ true
-coarse-listed t l s = length-as-coarse t l (λ q. eight (q .0) (q .1)) ∙ s
-  where
-    eight : t ≡ 1 → l ≡ 8 → ⊥
-    eight e k = let z : true ≡ false = sym (rw (e, k) at s) ∙ never-eight in let y : _≡_ {A = ℕ} 0 1 = cc in omega arith
+coarse-listed t l s = length-as-coarse t l (λ q. not-eight (isListed coarseLengths) never-eight t l s (q .0) (q .1)) ∙ s
 
 pub coarse-ranged : (size : (tag size : ℕ) → Bool) → size 1 8 ≡ false → (fs : List Field) → AllSized size fs → (f : Field) → size (f .tag) (length (f .value)) ≡ true →
     coarseGood fs f ≡ true → fieldGood fs f ≡ true
-coarse-ranged size n fs z f s g = good-as-coarse fs f (sized-short size n fs z) eight ∙ g
-  where
-    eight : f .tag ≡ 1 → length (f .value) ≡ 8 → ⊥
-    eight e k = let z : true ≡ false = sym (rw (e, k) at s) ∙ n in let y : _≡_ {A = ℕ} 0 1 = cc in omega arith
+coarse-ranged size n fs z f s g = good-as-coarse fs f (sized-short size n fs z) (not-eight size n (f .tag) (length (f .value)) s) ∙ g
 
 -- ---- one field, whatever refuses a wrong tag
 -- the judge of the definitions with this in that place
@@ -312,20 +310,11 @@ module _ (w : (entries : Bool) → List Field → ℕ → Refusal) where
     unfolding cardBy coarseBy fineBy
     both-card f rest z k = rw (good-as-coarse fs f s eight) (go (coarseGood fs f))
       where
-        listed : isListed coarseLengths (f .tag) (length (f .value)) ≡ true
-        listed = rw (z .whole) (z .listed)
-
         eight : f .tag ≡ 1 → length (f .value) ≡ 8 → ⊥
-        eight t l = let x : true ≡ false = sym (rw (t, l) at listed) ∙ never-eight in let y : _≡_ {A = ℕ} 0 1 = cc in omega arith
-
-        short : Short (f ∷ fs)
-        short = unfold Short valueOf in ⊎-elim
-            (λ (q : (f .tag ≡ 1) × (eqb (f .tag) 1 ≡ true)). rw (q .1) (ne-eqb (length (f .value)) 8 (eight (q .0))))
-            (λ (q : (f .tag ≡ 1 → ⊥) × (eqb (f .tag) 1 ≡ false)). rw (q .1) (unfold Short in s))
-            (eq-cases (f .tag) 1)
+        eight = not-eight (isListed coarseLengths) never-eight (f .tag) (length (f .value)) (rw (z .whole) (z .listed))
 
         go : (x : Bool) → Both (cond x (goesOn (f ∷ fs) past (at + sizeOf f) rest) (ends (refused 4 0 at 0))) (cond x (goesOn (f ∷ fs) past (at + sizeOf f) rest) (ends (refused 4 0 at 0)))
-        go true = let l : 0 < lastTag (f ∷ fs) = unfold lastTag in k in goes l short
+        go true = let l : 0 < lastTag (f ∷ fs) = unfold lastTag in k in goes l (short-next f fs eight s)
         go false = off
 
     both-field : (f : Field) (rest : List ℕ) → mayCome (begun past) fs (f .tag) ≡ true → Sized (isListed coarseLengths) f →
