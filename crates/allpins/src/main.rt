@@ -1,6 +1,8 @@
 // All 2^20 CA patterns with clock enable high, in a trace of one part with CS_n low, and in one of two as each part's; others with all that can stand above
 // the CA bits; and commands that the writer refuses, for what they carry or for the part. For each rising edge a line: its kind in the table, and a digest of
 // what its patterns are read as and of the buffer after writing. The file stdout is worked out by expected.py from the lists in the documents.
+#![tactic(auto)]
+
 ghost use Rattle.std.specs.Prelude.{◌≤◌, ◌<◌};
 
 use libc::STDOUT_FILENO;

@@ -1,4 +1,6 @@
 // A record of each bank, moved on by one entry at a time.
+#![tactic(auto)]
+
 mod both;
 mod ending;
 mod fresh;
@@ -16,14 +18,14 @@ pub use sound::good;
 pub use taking::{after, once_at, pushed, share_after};
 
 // The stamp of an entry. That there is no such entry yet is a state of its own, since a stamp uses all 32 bits.
-#[derive(Drop)]
+#[derive(Clone, Copy)]
 pub struct Once {
     pub seen: bool,
     pub at: u32,
 }
 
 // The same with the mode registers as they stood there.
-#[derive(Drop)]
+#[derive(Clone, Copy)]
 pub struct Noted {
     pub seen: bool,
     pub at: u32,
@@ -31,13 +33,13 @@ pub struct Noted {
 }
 
 // One of each bank.
-#[derive(Drop)]
+#[derive(Clone, Copy)]
 pub struct Each {
     pub seen: [bool; 8],
     pub at: [u32; 8],
 }
 
-#[derive(Drop)]
+#[derive(Clone, Copy)]
 pub struct NotedEach {
     pub seen: [bool; 8],
     pub at: [u32; 8],
@@ -45,14 +47,14 @@ pub struct NotedEach {
 }
 
 // The last four activations of all banks, the newest first; a count above 4 is read as 4.
-#[derive(Drop)]
+#[derive(Clone, Copy)]
 pub struct Four {
     pub count: u8,
     pub at: [u32; 4],
 }
 
 // The latest entries of all banks together.
-#[derive(Drop)]
+#[derive(Clone, Copy)]
 pub struct Latest {
     pub mrw: Once,
     pub mrr: Once,
@@ -62,7 +64,7 @@ pub struct Latest {
 }
 
 // Those that use the data bus, of all banks together; `turn` is the latest RD or MRR.
-#[derive(Drop)]
+#[derive(Clone, Copy)]
 pub struct Bus {
     pub rd: Once,
     pub wr: Noted,
@@ -70,7 +72,7 @@ pub struct Bus {
 }
 
 // The latest entries to each bank. A PRE counts where no later PRE-all came, and a PRE-all where no later PRE of the bank did.
-#[derive(Drop)]
+#[derive(Clone, Copy)]
 pub struct Banks {
     pub opened: [bool; 8],
     pub refpb: Each,
@@ -83,7 +85,7 @@ pub struct Banks {
 }
 
 // The latest moves of clock-enable: a fall, and a rise from power-down and from self-refresh.
-#[derive(Drop)]
+#[derive(Clone, Copy)]
 pub struct Moves {
     pub fall: Once,
     pub power_exit: Once,
@@ -91,7 +93,7 @@ pub struct Moves {
 }
 
 // What is kept of a part; its level is the ledger's.
-#[derive(Drop)]
+#[derive(Clone, Copy)]
 pub struct Share {
     pub modes: Modes,
     pub counter: u8,
@@ -105,7 +107,7 @@ pub struct Share {
 
 // `last` is the last entry's stamp, of whichever part, and the pace is one for all parts. Where the card has no tag 25 there is one part, and `second` is not
 // looked at.
-#[derive(Drop)]
+#[derive(Clone, Copy)]
 pub struct Record {
     pub card: Card,
     pub last: Once,
@@ -115,14 +117,14 @@ pub struct Record {
 }
 
 // Of each part.
-#[derive(Drop)]
+#[derive(Clone, Copy)]
 pub struct Ledgers {
     pub first: Ledger,
     pub second: Ledger,
 }
 
 // What the account answers, and the ledgers then: as they stood, where it is refused.
-#[derive(Drop)]
+#[derive(Clone, Copy)]
 pub struct Paid {
     pub ledgers: Ledgers,
     pub answer: Answer,

@@ -9,7 +9,7 @@ use bank::{Each, Four, Noted, NotedEach, Once, Share};
 use card::Modes;
 
 // The latest entry of a kind, or of a kind to one bank; the first of the four latest activations; the latest RD or MRR; the latest moves of clock-enable.
-#[derive(Drop)]
+#[derive(Clone, Copy)]
 pub enum Ask {
     Mrw,
     Mrr,
@@ -33,7 +33,7 @@ pub enum Ask {
 }
 
 // An entry's stamp and the mode registers as they stood there, if there is one; none where no rule goes by them.
-#[derive(Drop)]
+#[derive(Clone, Copy)]
 pub struct Found {
     pub seen: bool,
     pub at: u32,

@@ -14,7 +14,7 @@ use card::Modes;
 
 // What the mode registers as at the entry make of a delay: nothing; WL is added; RL is added and WL taken off; WL and nWR are added, n(tWR), which it holds,
 // where none is programmed.
-#[derive(Drop)]
+#[derive(Clone, Copy)]
 pub enum Lag {
     Plain,
     Written,

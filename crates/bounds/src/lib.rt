@@ -1,4 +1,6 @@
 // Delay rules 1 to 18 and 21 to 27 over a part's share and the other part's bus: the first cycle that each permits, the first rule broken, and the first cycle at which all hold.
+#![tactic(auto)]
+
 mod across;
 mod answers;
 mod delays;
@@ -10,7 +12,7 @@ mod table;
 pub use folds::{first_broken, first_cycle};
 
 // The lowest rule that is broken, with its first permitted cycle.
-#[derive(Drop)]
+#[derive(Clone, Copy)]
 pub enum Broken {
     Nothing,
     Rule { rule: u8, cycle: u64 },

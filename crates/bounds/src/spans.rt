@@ -10,7 +10,7 @@ ghost use Rattle.bounds.specs.Parts.{shown_as, span_of};
 use pins::Command;
 
 // `count` banks from `first` on, without `but`.
-#[derive(Drop)]
+#[derive(Clone, Copy)]
 pub struct Span {
     pub first: u8,
     pub count: u8,
@@ -21,7 +21,7 @@ pub struct Span {
 const NOBODY: u16 = 256;
 
 // What the table looks at: the kind's number in the table of kinds, and the bank that the command acts on.
-#[derive(Drop)]
+#[derive(Clone, Copy)]
 pub struct Shown {
     pub kind: u8,
     pub bank: u8,

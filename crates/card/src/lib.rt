@@ -1,4 +1,6 @@
 // The device card by value: the ranges of its values, the latencies of MR2, nWR by MR1 and MR2, its delays in clocks by the temperature, and its fields read from bytes.
+#![tactic(auto)]
+
 mod benched;
 mod heat;
 mod ranges;
@@ -17,20 +19,20 @@ pub use timings::{delays_at, interval_at};
 pub use units::greater;
 pub use values::{blank, length_good, read_value};
 
-#[derive(Drop)]
+#[derive(Clone, Copy)]
 pub struct Picoseconds(pub u64);
 
-#[derive(Drop)]
+#[derive(Clone, Copy)]
 pub struct Femtoseconds(pub u64);
 
-#[derive(Drop)]
+#[derive(Clone, Copy)]
 pub struct Clocks(pub u64);
 
 // `durations` and `floors` are the two columns of tags 5 to 22: trcd, trppb, trpab, tras, trrd, tfaw, trtp, twr, twtr, tdqsck,
 // trfcab, trfcpb, tmrr, tmrw, tcke, txp, tckesr, txsr. `sleeps`: tags 19 to 22 are there. `programmed`: tag 23 is there; `mr1`: its
 // starting MR1. `paired`: tag 25 is there; `gap`: its clocks between
 // the two parts. `raise`: tag 26, what the hottest code of MR4 adds to the first five durations; 0 where the card has none.
-#[derive(Drop)]
+#[derive(Clone, Copy)]
 pub struct Card {
     pub period: Femtoseconds,
     pub mr2: u8,
@@ -47,7 +49,7 @@ pub struct Card {
 }
 
 // In clocks, in 32 bits, which hold every delay of a card in range.
-#[derive(Drop)]
+#[derive(Clone, Copy)]
 pub struct Delays {
     pub trcd: u32,
     pub trppb: u32,
@@ -72,21 +74,21 @@ pub struct Delays {
 }
 
 // The mode registers that the delay rules go by. `programmed`: MR1 was written, or the card has one; else `mr1` is not looked at.
-#[derive(Drop)]
+#[derive(Clone, Copy)]
 pub struct Modes {
     pub mr2: u8,
     pub programmed: bool,
     pub mr1: u8,
 }
 
-#[derive(Drop)]
+#[derive(Clone, Copy)]
 pub struct Latency {
     pub rl: u8,
     pub wl: u8,
 }
 
 // What refuses a tag: the number, and the tag that is expected there.
-#[derive(Drop)]
+#[derive(Clone, Copy)]
 pub struct Wrong {
     pub number: u8,
     pub expected: u8,
@@ -94,7 +96,7 @@ pub struct Wrong {
 
 // What a field makes of a card: 0 and the card with the value in it, or a refusal's number and the card as it was. `rule`: the tag that is expected, where the
 // field's own is refused; else 0.
-#[derive(Drop)]
+#[derive(Clone, Copy)]
 pub struct Read {
     pub refusal: u8,
     pub rule: u8,

@@ -8,10 +8,10 @@ use crate::units::femtoseconds;
 use crate::{Femtoseconds, Latency, Modes, Picoseconds};
 
 // A row of the table: the code in MR2's OP3-0, the least period in ps that it may stand with, RL, and WL of set A and of set B.
-#[derive(Drop)]
+#[derive(Clone, Copy)]
 pub struct Row(u8, u32, u8, u8, u8);
 
-#[derive(Drop)]
+#[derive(Clone, Copy)]
 pub enum Found {
     At(Row),
     Nothing,

@@ -6,7 +6,7 @@ ghost use Rattle.card.specs.Tags.{group_at, wrong_of};
 use crate::Wrong;
 
 // The card's tags come in groups, each whole: a group's first tag and its last.
-#[derive(Drop)]
+#[derive(Clone, Copy)]
 pub struct Group(u8, u8);
 
 const GROUPS: [Group; 5] = [

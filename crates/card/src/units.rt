@@ -4,7 +4,7 @@ ghost use Rattle.rules.specs.Units.{femto, rounded_up};
 
 use crate::{Clocks, Femtoseconds, Picoseconds};
 
-#[derive(Drop)]
+#[derive(Clone, Copy)]
 pub struct Timing {
     pub duration: Picoseconds,
     pub floor: Clocks,

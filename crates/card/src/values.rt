@@ -10,7 +10,7 @@ use crate::units::femtoseconds;
 use crate::{Card, Femtoseconds, Picoseconds, Read};
 
 // The lengths that a tag may have: twice the same, where there is one.
-#[derive(Drop)]
+#[derive(Clone, Copy)]
 pub struct Sizes(usize, usize);
 
 // Those that are listed; 0 where there is no such tag.

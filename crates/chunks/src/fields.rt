@@ -10,14 +10,14 @@ use bank::Ledgers;
 use step::Ran;
 
 // What the bytes at a place are: a whole field of so many bytes, one whose rest is not there yet, or the end of the judging.
-#[derive(Drop)]
+#[derive(Clone, Copy)]
 pub enum Move {
     On(usize),
     Wait,
     End(Verdict),
 }
 
-#[derive(Drop)]
+#[derive(Clone, Copy)]
 pub struct Took {
     pub how: Move,
     pub state: State,

@@ -7,7 +7,7 @@ ghost use Rattle.chunks.specs.Parts.{head_as};
 use card::Wrong;
 
 // A whole field of so many bytes, one whose rest is not there yet, or a refusal.
-#[derive(Drop)]
+#[derive(Clone, Copy)]
 pub enum Head {
     Whole(usize),
     Cut,

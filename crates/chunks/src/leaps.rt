@@ -8,7 +8,7 @@ use bank::Record;
 use step::Ran;
 
 // How many bytes were taken, how many bytes of lines were written, and the state then.
-#[derive(Drop)]
+#[derive(Clone, Copy)]
 pub struct Ahead {
     pub used: usize,
     pub wrote: usize,

@@ -1,4 +1,6 @@
 // The judge of a file that comes in chunks.
+#![tactic(auto)]
+
 mod feeding;
 mod fields;
 mod heads;
@@ -12,7 +14,7 @@ use lines::Owed;
 pub use verdicts::verdict_line;
 
 // What comes back at the end: entries other than NOP, counted refreshes and what is owed at E; or the four numbers of a refusal.
-#[derive(Drop)]
+#[derive(Clone, Copy)]
 pub enum Verdict {
     Accepted {
         commands: u64,
@@ -28,7 +30,7 @@ pub enum Verdict {
 }
 
 // What was read of a file. `tag` is the tag of the card's newest field, 0 before the first, and 33 behind the end field; the record's card is the card so far.
-#[derive(Drop)]
+#[derive(Clone, Copy)]
 pub struct State {
     tag: u8,
     rec: Record,
@@ -38,7 +40,7 @@ pub struct State {
 }
 
 // Why a call came back: it needs more bytes, or more room for lines, or the file is judged.
-#[derive(Drop)]
+#[derive(Clone, Copy)]
 pub enum What {
     More,
     Full,
@@ -46,7 +48,7 @@ pub enum What {
 }
 
 // How many bytes went in whole fields, how many bytes of lines were written, and the state then.
-#[derive(Drop)]
+#[derive(Clone, Copy)]
 pub struct Fed {
     pub what: What,
     pub used: usize,

@@ -5,7 +5,7 @@ ghost use Rattle.step.specs.Values as stepped;
 ghost use Rattle.chunks.specs.Parts.{told_of};
 
 // Number, rule and cycle; nothing is refused where the number is 0.
-#[derive(Drop)]
+#[derive(Clone, Copy)]
 pub struct Told(pub u8, pub u8, pub u64);
 
 pub fn of_step(answer: step::Answer) -> Told

@@ -1,10 +1,12 @@
 // Judges each file that an argument names, up to 65,536 bytes of it: its name; its lines and its verdict, from pieces of 7 bytes; the verdict of the whole once more.
 // Behind the word --cuts: the name, and the verdict of every cut, from no bytes to all. The files, and what must come out, are written by expected.py.
+#![tactic(auto)]
+
 use chunks::{State, Verdict, What};
 use libc::STDOUT_FILENO;
 
 // A file half judged: the bytes before `at` are, and those from `end` on are still to come.
-#[derive(Drop)]
+#[derive(Clone, Copy)]
 struct Walk {
     going: bool,
     state: State,

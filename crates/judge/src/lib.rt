@@ -1,4 +1,6 @@
 // The judge of a whole file. The laws here hold `chunks`, which judges a file in parts, against the rules.
+#![tactic(auto)]
+
 ghost use Rattle.std.specs.Prelude.{◌≡◌};
 ghost use Rattle.rules.specs.File.{judge_file};
 ghost use Rattle.chunks.specs.Values.{verdict_of};

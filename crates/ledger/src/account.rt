@@ -8,21 +8,21 @@ ghost use Rattle.ledger.specs.Parts as parts;
 use card::greater;
 
 // Dues at number `next`, which may be any, and every `span` after it.
-#[derive(Drop)]
+#[derive(Clone, Copy)]
 pub struct Beat {
     pub next: u64,
     pub span: u64,
 }
 
 // Some cycles with no counted refresh: the ledger then, or the first number that fails, with its rule.
-#[derive(Drop)]
+#[derive(Clone, Copy)]
 pub enum Idle {
     Stands(u8),
     Breaks { rule: u8, number: u64 },
 }
 
 // The first number that fails with no counted refresh, and its rule.
-#[derive(Drop)]
+#[derive(Clone, Copy)]
 pub struct First {
     pub rule: u8,
     pub number: u64,

@@ -1,4 +1,6 @@
 // The refresh account by value, and its one function behind `&mut`.
+#![tactic(auto)]
+
 ghost use Rattle.rules.specs.Lent.{move_refusal, moved_on};
 ghost use Rattle.card.specs.Values.{card_of};
 ghost use Rattle.ledger.specs.Values.{ledger_of, pace_of, Left, after_as};
@@ -19,7 +21,7 @@ pub use pacing::{first_pace, respaced};
 // The ledger as after cycle `at`. `owed` is the number with 8 added: 0 to 16 for -8 to 8. `skipped` of the cycles up to `at` were not counted; counted
 // cycles have numbers, and the gap counts from number `since`, that of the last counted refresh or of a later temperature, or 0. The level says whether the
 // cycles after `at` count.
-#[derive(Drop)]
+#[derive(Clone, Copy)]
 pub struct Ledger {
     pub at: u32,
     pub owed: u8,
@@ -29,14 +31,14 @@ pub struct Ledger {
 }
 
 // When refreshes are due: one at number `next`, which may be any, none before it, and one every interval after it, by the MR4 value that was read back last.
-#[derive(Drop)]
+#[derive(Clone, Copy)]
 pub struct Pace {
     pub next: u64,
     pub mr4: u8,
 }
 
 // What an entry does to a ledger: whether it is a counted refresh, whether it is a temperature, and its move.
-#[derive(Drop)]
+#[derive(Clone, Copy)]
 pub struct Effect {
     pub counted: bool,
     pub sensed: bool,
@@ -44,7 +46,7 @@ pub struct Effect {
 }
 
 // What a caller is told: 13, 5, or 11 with the rule and the first cycle that fails.
-#[derive(Drop)]
+#[derive(Clone, Copy)]
 pub enum Answer {
     Done,
     BadRecord,
@@ -53,7 +55,7 @@ pub enum Answer {
 }
 
 // The answer, and the ledger then: as it was, where it is refused.
-#[derive(Drop)]
+#[derive(Clone, Copy)]
 pub struct After {
     pub ledger: Ledger,
     pub answer: Answer,

@@ -4,14 +4,14 @@ ghost use Rattle.lines.specs.Names.{Shows};
 
 use pins::Command;
 
-#[derive(Drop)]
+#[derive(Clone, Copy)]
 pub enum Shown {
     Bank(u8),
     Dash,
 }
 
 // The name behind a blank, its size with the blank, and the bank.
-#[derive(Drop)]
+#[derive(Clone, Copy)]
 pub struct Face(pub [u8; 6], pub usize, pub Shown);
 
 // REFpb shows the counter's bank.

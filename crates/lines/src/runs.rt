@@ -14,7 +14,7 @@ use pins::Level;
 
 // What is kept from line to line: the place of the next, what the pins of a tail are, which tells the level, the round counters of part 0 and part 1, and the first
 // digits of a stamp.
-#[derive(Drop)]
+#[derive(Clone, Copy)]
 pub struct Next {
     pub at: usize,
     pub high: u32,

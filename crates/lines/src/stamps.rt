@@ -5,7 +5,7 @@ ghost use Rattle.lines.specs.Quick.{last_four, LeadGood, PairsGood};
 use crate::numbers::put_number;
 
 // A multiple of ten thousand, and its digits but the last four, so many of the eight bytes.
-#[derive(Drop)]
+#[derive(Clone, Copy)]
 pub struct Lead {
     pub base: u32,
     pub text: [u8; 8],

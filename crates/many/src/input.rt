@@ -50,7 +50,7 @@ fn big_endian(head: &[u8; 4]) -> usize {
     65536 * high + low
 }
 
-#[derive(Drop)]
+#[derive(Clone, Copy)]
 pub enum Length {
     Of(usize),
     None,

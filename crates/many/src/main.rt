@@ -1,5 +1,7 @@
 // Reads traces from standard input, each behind its length (4 bytes, big-endian), and prints the verdict of each, until the input ends.
 // The files stdin and stdout are written by expected.py.
+#![tactic(auto)]
+
 mod input;
 mod traces;
 
@@ -10,7 +12,7 @@ use libc::STDOUT_FILENO;
 use traces::Next;
 
 // The first `wrote` bytes of the lent room are lines that are still to be printed. Not going: the input has ended, or a read or a write failed.
-#[derive(Drop)]
+#[derive(Clone, Copy)]
 struct Batch {
     going: bool,
     wrote: usize,

@@ -6,14 +6,14 @@ use crate::input::Length;
 use chunks::{State, Verdict, What};
 
 // The next trace's verdict; none where the input ends.
-#[derive(Drop)]
+#[derive(Clone, Copy)]
 pub enum Next {
     Judged(Verdict),
     None,
 }
 
 // A trace half read. The first `have` bytes of the buffer are still to be judged, `left` bytes are still to be read. cut: they do not come.
-#[derive(Drop)]
+#[derive(Clone, Copy)]
 struct Half {
     what: What,
     state: State,

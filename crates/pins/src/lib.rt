@@ -1,4 +1,6 @@
 // The commands on the pins: decoding, the table of kinds, and the writer; the fields that hold them; low clock-enable; two parts on one bus; temperatures; the round counter.
+#![tactic(auto)]
+
 mod counter;
 mod fields;
 mod heat;
@@ -20,7 +22,7 @@ pub use table::{kind_of, kinds};
 pub use writer::write_entry;
 
 // A command with its numbers. A column is even.
-#[derive(Drop)]
+#[derive(Clone, Copy)]
 pub enum Command {
     Nop,
     Mrw { ma: u8, op: u8 },
@@ -35,7 +37,7 @@ pub enum Command {
 }
 
 // What pins are: a command, wrong bits (6), or a reserved pattern or an unlisted MA (7).
-#[derive(Drop)]
+#[derive(Clone, Copy)]
 pub enum Decoded {
     Good(Command),
     WrongBits,
@@ -43,7 +45,7 @@ pub enum Decoded {
 }
 
 // The level that a part is in.
-#[derive(Drop)]
+#[derive(Clone, Copy)]
 pub enum Level {
     Awake,
     PowerDown,
@@ -52,7 +54,7 @@ pub enum Level {
 }
 
 // Clock-enable stays, falls into a level, or rises from one.
-#[derive(Drop)]
+#[derive(Clone, Copy)]
 pub enum Move {
     Stays,
     Falls(Level),
@@ -61,7 +63,7 @@ pub enum Move {
 
 // What an entry is at a level: what pins are awake with clock-enable high, a move, an entry asleep, what is not permitted here (16), both CS_n low (24),
 // or a temperature, the value of MR4 that was read back.
-#[derive(Drop)]
+#[derive(Clone, Copy)]
 pub enum Read {
     Plain(Decoded),
     Moved(Move),
@@ -73,7 +75,7 @@ pub enum Read {
 
 // Whose an entry is: of the one part of a trace without tag 25; of part 0; of both, as a temperature is; of part 1; or, with both CS_n high, NOP for both and
 // of neither.
-#[derive(Drop)]
+#[derive(Clone, Copy)]
 pub enum Whose {
     Sole,
     First,
@@ -83,14 +85,14 @@ pub enum Whose {
 }
 
 // The part that the writer is told, or none.
-#[derive(Drop)]
+#[derive(Clone, Copy)]
 pub enum Told {
     Nobody,
     Part(u8),
 }
 
 // What the writer did: an entry written, or a refusal because of the part or of what the command carries (14) or for want of room (15).
-#[derive(Drop)]
+#[derive(Clone, Copy)]
 pub enum Wrote {
     Done,
     Unfit,
@@ -98,7 +100,7 @@ pub enum Wrote {
 }
 
 // The entry field at a place of some bytes: whether one stands there whole, and its numbers; 0 where none does.
-#[derive(Drop)]
+#[derive(Clone, Copy)]
 pub struct Front {
     pub whole: bool,
     pub stamp: u32,

@@ -9,7 +9,7 @@ use crate::{Command, Told, Wrote, fields, reader, telling};
 
 // What a command puts on the pins: those that are the same for its whole kind (clock enable, CS_n, the levels from CA0r on), and its numbers, 0 where it
 // carries none.
-#[derive(Drop)]
+#[derive(Clone, Copy)]
 struct Parts {
     fixed: u32,
     bank: u8,

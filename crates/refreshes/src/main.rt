@@ -1,6 +1,8 @@
 // The refresh cases of document 01, refusals, sleeps, temperatures, periods, and moves over all 2^32 cycles. A line each: the refusal's number, rule and cycle, then
 // the ledger's cycle, number with 8 added, where the gap counts from, cycles not counted, and level. A line of two numbers is a pace, its next due and MR4,
 // and a line of one a deadline. The file stdout is worked out by expected.py, due by due.
+#![tactic(auto)]
+
 ghost use Rattle.std.specs.Prelude.{◌+◌, ◌≤◌, ◌<◌, ◌^◌};
 
 use card::Femtoseconds;

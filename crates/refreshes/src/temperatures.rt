@@ -8,7 +8,7 @@ use card::{Card, Femtoseconds};
 use ledger::{Effect, Ledger, Pace};
 use pins::{Level, Move};
 
-#[derive(Drop)]
+#[derive(Clone, Copy)]
 pub struct Stood {
     ledger: Ledger,
     pace: Pace,

@@ -154,13 +154,13 @@ module _ (f : Field) (fs : List Field) (k : ReadTo fs) where
   more_by_one e = record {
     rising = λ n h. ⊎_elim (λ (q : f.tag ≡ n). omega (arith, q)) (λ (q : has n fs ≡ true). omega (arith, e, k.rising n q)) (has_more n f fs h);
     newest = λ l. has_new f.tag f fs refl;
-    low = λ n a b l. up_to n l (k.low n a b);
+    low = λ n a b l. reached n l (k.low n a b);
     first = λ n a b h. ⊎_elim (λ (q : f.tag ≡ n). from_19 (omega (arith, q, a)) (omega (arith, q, b))) (λ (q : has n fs ≡ true). has_old 19 f fs (k.first n a b q)) (has_more n f fs h);
-    four = λ n a b l h. up_to n l (λ m. k.four n a b m (before_19 n a m (has_more 19 f fs h)));
+    four = λ n a b l h. reached n l (λ m. k.four n a b m (before_19 n a m (has_more 19 f fs h)));
   }
     where
-      up_to : (n : ℕ) → n ≤ f.tag → (n ≤ last_tag fs → has n fs ≡ true) → has n (f ∷ fs) ≡ true
-      up_to n l h = ⊎_elim
+      reached : (n : ℕ) → n ≤ f.tag → (n ≤ last_tag fs → has n fs ≡ true) → has n (f ∷ fs) ≡ true
+      reached n l h = ⊎_elim
           (λ (q : (f.tag ≡ n) × (eqb f.tag n ≡ true)). has_new n f fs q.0)
           (λ (q : (f.tag ≡ n → ⊥) × (eqb f.tag n ≡ false)). has_old n f fs (h (omega (arith, e, l, q.0))))
           (eq_cases f.tag n)

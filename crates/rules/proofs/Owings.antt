@@ -286,13 +286,12 @@ module _ (card : Card) (past : Past) (e : Entry) (up : Rising past) (o : Orderly
     -- a temperature that is taken asleep can only help: the gap is then 0 at its number
     gap_with : Path (Option (ℕ × ℕ)) (failing lpddr3 d (ledger_on lpddr3.credit (book_of card past) t) (last_on (book_of card past) t) n t) none →
         failing lpddr3 d' (ledger_on lpddr3.credit (book_of card past) t) (last_on (book_of card past) t) n t ≡ none
-    gap_with p = ⊎_elim
-        (λ (q : (n < own) × (ltb n own ≡ true)).
-        let g = gap_other card x past n (unfold taken in q.0) in
-        unfold failing in rw (g.0, g.1 (last_on (book_of card past) t)) (unfold failing in p))
-        (λ (q : (own ≤ n) × (ltb n own ≡ false)). by x.mr4 refl q.1)
-        (lt_cases n own)
+    gap_with p = ⊎_elim early (λ (q : (own ≤ n) × (ltb n own ≡ false)). by x.mr4 refl q.1) (lt_cases n own)
       where
+        early : (n < own) × (ltb n own ≡ true) →
+            failing lpddr3 d' (ledger_on lpddr3.credit (book_of card past) t) (last_on (book_of card past) t) n t ≡ none
+        early q = let g = gap_other card x past n (unfold taken in q.0) in unfold failing in rw (g.0, g.1 (last_on (book_of card past) t)) (unfold failing in p)
+
         by : (m : Option ℕ) → x.mr4 ≡ m → ltb n own ≡ false →
             failing lpddr3 d' (ledger_on lpddr3.credit (book_of card past) t) (last_on (book_of card past) t) n t ≡ none
         by none g q = rw (plain_schedule card x past g) p

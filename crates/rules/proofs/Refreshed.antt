@@ -16,7 +16,7 @@ use Rattle.rules.specs.Whose.{parts}
 use Rattle.rules.specs.Heat.{start_mr4, interval_at}
 use Rattle.rules.specs.Past.{Past, of_part, refresh_stamps, counted_stamps}
 use Rattle.rules.specs.Entries.{Entry, taken, taken_for, past_with, past_over, past_of}
-use Rattle.rules.specs.Account.{Terms, lpddr3, every, on_beat, Book, ledger_after, ledger_on}
+use Rattle.rules.specs.Account.{Schedule, Terms, lpddr3, every, on_beat, Book, ledger_after, ledger_on}
 use Rattle.rules.specs.Clock.{counted_from, clock, beat_at, schedule_of, book_of, books_of, past_below, interval_below}
 use Rattle.rules.specs.Verdict.{accepted, judge}
 use Rattle.rules.specs.Reading.{AllPass, plainly, Above, NotBelow, WithinLimit, Paid, EachPaid, paid_below, entry_reads, end_reads, reads_at, Accepts}
@@ -86,6 +86,11 @@ traced card es end m n l e p ip = record {
     up : Rising (past_over card [] es)
     up = rises card [] es a.entries (unfold Rising in tt)
 
+-- at the start nothing is owed, and 8 is the credit
+dues_begun : (s : Schedule) (I L : ℕ) (ns : List ℕ) → L / I ≤ dues s L + 1 → L / (every I).span + dues s 0 ≤ dues s L + owed 8 s ns 0
+unfolding every dues owed
+dues_begun s I L ns d = omega (arith, d)
+
 module _ (card : Card) (past : Past) (end : ℕ) (t : Trace card past end) where
   abbrev numbers : List ℕ
   numbers = map (clock past) (counted_stamps past)
@@ -122,7 +127,7 @@ module _ (card : Card) (past : Past) (end : ℕ) (t : Trace card past end) where
           let l0 : 0 + counted_from past a n ≡ counted_from past a n = omega arith in
           let d = dues_first (schedule_of card past) (interval_at card start_mr4) (counted_from past a n) (interval_least card start_mr4)
           (λ m h. rw (← b0) (same m (omega (arith, e)) (omega (arith, e)))) in
-          rw (b0, l0) (unfold every dues owed in omega (arith, d))
+          rw (b0, l0) (dues_begun (schedule_of card past) (interval_at card start_mr4) (counted_from past a n) numbers d)
         where
           at_start : (a : ℕ) → N past a ≡ 0 → a ≡ 0
           at_start zero e = refl

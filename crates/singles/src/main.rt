@@ -2,6 +2,8 @@
 // of two parts each one's), or `refused` with the refusal's number, rule and cycle; and a line `changed` where the share of a part that is not there does not come
 // back to the bit. Behind them what the writer does for the part that it is told, and what is read.
 // The cases are told in cases.txt; the file stdout is worked out from it by expected.py, over the list of entries.
+#![tactic(auto)]
+
 mod lines;
 mod places;
 mod same;

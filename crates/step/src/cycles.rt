@@ -8,7 +8,7 @@ use bank::Bus;
 use card::{Delays, Modes, greater};
 
 // What the record holds for the bank that a command names.
-#[derive(Drop)]
+#[derive(Clone, Copy)]
 pub struct Lane {
     pub opened: bool,
     pub refpb: u32,

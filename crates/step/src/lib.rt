@@ -1,5 +1,7 @@
 // An entry, of pins or a temperature, offered to a record: 13, 5, 11 below its stamp, 6, 24, 7, 8, 16, 9, 26, 10, 11 at its stamp; and the record then. A run of entries of pins, up
 // to the first that is refused.
+#![tactic(auto)]
+
 mod account;
 mod counts;
 mod cycles;
@@ -19,7 +21,7 @@ pub use offering::{sense, step};
 pub use turns::run;
 
 // What a caller is told: the entry is taken, or a refusal; 10 and 11 with the rule and the cycle.
-#[derive(Drop)]
+#[derive(Clone, Copy)]
 pub enum Answer {
     Taken,
     BadRecord,
@@ -36,14 +38,14 @@ pub enum Answer {
 }
 
 // The answer, and the record then: as it was, to the bit, where the entry is refused.
-#[derive(Drop)]
+#[derive(Clone, Copy)]
 pub struct Stepped {
     pub rec: Record,
     pub answer: Answer,
 }
 
 // How far a run came: the record then, the bytes taken, how many of the entries are not NOP, and how many are counted refreshes.
-#[derive(Drop)]
+#[derive(Clone, Copy)]
 pub struct Ran {
     pub rec: Record,
     pub used: usize,

@@ -19,7 +19,7 @@ use ledger::Pace;
 use pins::{Read, Whose};
 
 // The answer, and the ledgers at the stamp where it is taken.
-#[derive(Drop)]
+#[derive(Clone, Copy)]
 pub struct Ruling {
     pub answer: Answer,
     pub ledgers: Ledgers,

@@ -7,7 +7,7 @@ use bank::{Once, Record, Share};
 use card::Card;
 use ledger::Pace;
 
-#[derive(Drop)]
+#[derive(Clone, Copy)]
 pub struct Single {
     pub card: Card,
     pub last: Once,
@@ -16,7 +16,7 @@ pub struct Single {
 }
 
 // How far a run came: the record then, the bytes taken, how many of the entries are not NOP, and how many are counted refreshes.
-#[derive(Drop)]
+#[derive(Clone, Copy)]
 pub struct Gone {
     pub rec: Single,
     pub used: usize,

@@ -7,7 +7,7 @@ use bank::{Latest, Moves};
 use card::{Delays, greater};
 
 // RL and WL by the present MR2; the first cycle by rules 1, 2, 3, 22 and 24; and with 6, and 10 after REFpb.
-#[derive(Drop)]
+#[derive(Clone, Copy)]
 pub struct Waits {
     pub mr2: u8,
     pub rl: u8,

@@ -1,5 +1,7 @@
 // Reads a trace from standard input and prints each accepted entry, then the verdict; with -q the verdict only. All that it prints comes from `chunks`.
 // The file stdin is document 01's bench card with ACT of bank 0 at 0 and RD of it at 14, one cycle too early.
+#![tactic(auto)]
+
 mod turns;
 
 ghost use Rattle.std.specs.Prelude.{◌≤◌, length};

@@ -10,7 +10,7 @@ use chunks::{State, Verdict, What};
 use libc::STDIN_FILENO;
 
 // What the next turn does: it reads, or has the judge go on, or tells the verdict; or there is none, since that was told or a read failed.
-#[derive(Drop)]
+#[derive(Clone, Copy)]
 pub enum Next {
     Read,
     Judge,
@@ -20,7 +20,7 @@ pub enum Next {
 }
 
 // A file half read. The first `have` bytes of the buffer are still to be judged, the first `wrote` of the lent room are to be printed. ended: no more bytes come.
-#[derive(Drop)]
+#[derive(Clone, Copy)]
 pub struct Turn {
     pub next: Next,
     ended: bool,
