@@ -551,7 +551,8 @@ TABLE = """\
 // The calls of all cases, two numbers each: what is called, and a stamp, a cycle or a value. Pins are an entry, and MR4 with a value is a temperature; a place of
 // the record is a value put there; CASE is the next case, a line of cases.txt, whose record starts fresh with the bench card; FRESH is a fresh record with the card that
 // stands there; PART is whose places and ledger those behind it are, the first part's before it.
-ghost use Prim.Native.Nat.{_<_};
+ghost use Rattle.std.specs.Prelude.{◌<◌};
+
 use crate::places::*;
 
 pub const CASE: u32 = 0x2000000;
@@ -578,7 +579,7 @@ const SECOND: [u32; %(rest)d] = [
 %(second)s];
 
 fn word(i: usize) -> u32
-    requires { ⌜ i < %(twice)d ⌝ }
+    requires { i < %(twice)d }
 {
     if i < %(half)d {
         return FIRST[i];
@@ -587,13 +588,13 @@ fn word(i: usize) -> u32
 }
 
 pub fn what_at(i: usize) -> u32
-    requires { ⌜ i < %(count)d ⌝ }
+    requires { i < %(count)d }
 {
     word(2 * i)
 }
 
 pub fn cycle_at(i: usize) -> u32
-    requires { ⌜ i < %(count)d ⌝ }
+    requires { i < %(count)d }
 {
     word(2 * i + 1)
 }

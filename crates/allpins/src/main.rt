@@ -5,8 +5,10 @@
 
 ghost use Rattle.std.specs.Prelude.{◌≤◌, ◌<◌};
 
-use libc::STDOUT_FILENO;
 use pins::{Command, Decoded, Level, Read, Told, Whose, Wrote};
+
+// The standard output's descriptor.
+const STDOUT: i32 = 1;
 
 fn mix(h: u64, x: u64) -> u64 {
     (h % 4294967296 * 1000003 + x % 4294967296) % 4294967296
@@ -169,10 +171,10 @@ fn show(rising: usize, digest: u64)
     requires { rising < 1024 }
 {
     let kinds = pins::kinds();
-    io::print_decimal(STDOUT_FILENO, kinds[rising] as u64);
-    io::write_all(STDOUT_FILENO, b" ");
-    io::print_decimal(STDOUT_FILENO, digest);
-    io::write_all(STDOUT_FILENO, b"\n");
+    io::print_decimal(STDOUT, kinds[rising] as u64);
+    io::write_all(STDOUT, b" ");
+    io::print_decimal(STDOUT, digest);
+    io::write_all(STDOUT, b"\n");
 }
 
 // The next pattern of a rising edge; behind the last of its 1,024 the line.

@@ -7,12 +7,18 @@ use native.Mathlib.Omega.{arith}
 use lib.Dec.{leb}
 use borrow.Author.Tests.{le-leb}
 use lib.ListN.{get_or, get_elem?, take}
-use Rattle.rules.specs.Delays.{unnoted}
+use Rattle.rules.specs.Delays.{unnoted, means, latest_of, lagging_of, fourth_of, latest_if, latest_move}
+use Rattle.rules.specs.Lent.{look_in}
 use Rattle.card.specs.Values.{mr1_if, modes_of}
 use Rattle.card.specs.declared.Modes.{Modes}
-use Rattle.bank.specs.Values.{kept, no_modes, place, four}
+use Rattle.bank.specs.Values.{kept, no_modes, place, four, once, noted, each, noted_each, pre_of, prea_of, asked, share_of}
 use Rattle.bank.specs.declared.Four.{Four}
-use Rattle.bounds.specs.Parts.{found_as, answer_of}
+use Rattle.bounds.specs.Parts.{found_as, answer_of, ask_of, asked_for}
+
+-- named by `look`: what unfolds this unfolds all these
+unfoldable pub opened : ℕ
+unfolding look_in share_of asked pre_of prea_of once noted each noted_each asked_for ask_of means latest_of lagging_of fourth_of latest_if latest_move
+opened = 0
 
 pub first_kept : (s : Bool) (t : ℕ) (n : Modes) → answer_of (found_as s t n) ≡ get_elem? (kept s t (modes_of n)) 0
 unfolding answer_of kept

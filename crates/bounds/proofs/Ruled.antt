@@ -7,7 +7,7 @@ use native.Mathlib.Omega.{arith}
 use lib.ListN.{get_or}
 use Rattle.rules.specs.Lists.{when}
 use Rattle.rules.specs.Commands as rules
-use Rattle.rules.specs.Commands.{NOP, MRW, MRR, REFPB, REFAB, ACT, RD, WR, PRE, PREA, is, banks}
+use Rattle.rules.specs.Commands.{code, NOP, MRW, MRR, REFPB, REFAB, ACT, RD, WR, PRE, PREA, is, banks}
 use Rattle.rules.specs.Levels.{self_refresh, Move, stays, is_fall, is_rise, rises_from}
 use Rattle.rules.specs.Registers.{rl_of, wl_of, Modes, nwr_of}
 use Rattle.rules.specs.Past.{bank_at}
@@ -17,7 +17,7 @@ use Rattle.rules.specs.Delays.{Answers, look_both, last_rd, last_wr, last_rd_or_
 use Rattle.rules.specs.Lent.{look_in}
 use Rattle.card.specs.Values.{clocks_of}
 use Rattle.card.specs.declared.Delays.{Delays}
-use Rattle.pins.specs.Values.{command_of}
+use Rattle.pins.specs.Values.{command_of, level_of}
 use Rattle.pins.specs.declared.Command.{Command}
 use Rattle.bank.specs.Values.{no_modes, share_of, bus_look, idle_bus, fresh_share}
 use Rattle.bank.specs.declared.Bus.{Bus}
@@ -253,3 +253,10 @@ module _ (s : Share) (d : Delays) (c : Command) (x : Bus) (v : Move) where
       ≡ bounds_of s x d c v
   gathered a p y t r w z o four ten eleven twelve moves rest ea ep ey et er ew e4 e10 e11 e12 ez e21 e23 eo =
       rw (ea, ep, ey, et, er, ew, e4, e10, e11, e12, ez, e21, e23, eo) (sym by_number)
+
+-- named by the file of the table: what unfolds this unfolds all these, and the laws
+unfoldable pub opened : ℕ
+unfolding is code bound_of across_of level_of
+opened = 0
+
+pub ruleset by_rule = (all_banks_are, after_refpb_is, after_precharge_are, after_act_are, other_banks_is, four_before_is, bursts_is, turns_are, after_rd_are, after_wr_are, between_moves_is, after_exit_are, in_self_refresh_is)

@@ -8,14 +8,21 @@ use native.Mathlib.Omega.{arith}
 use lib.Dec.{eqb}
 use Rattle.rules.specs.Folds as folds
 use Rattle.rules.specs.Folds.{Source, permitted, permitted_by}
-use Rattle.rules.specs.Commands.{Command, nop, mrw, mrr, refpb, refab, act, rd, wr, pre, prea, code, is, kind_of, bank_of, carries, bare}
+use Rattle.rules.specs.Lists.{when}
+use Rattle.rules.specs.Commands.{banks, Command, nop, mrw, mrr, refpb, refab, act, rd, wr, pre, prea, code, is, kind_of, bank_of, carries, bare}
 use Rattle.rules.specs.Registers.{Modes}
 use Rattle.rules.specs.Past.{bank_at}
-use Rattle.rules.specs.Delays.{Answers, without}
+use Rattle.rules.specs.Delays.{Answers, without, idle_use, precharged}
+use Rattle.pins.specs.Values.{command_of}
 use Rattle.bounds.specs.Parts.{asked_for, range, span_of, delay_in, permitted_after, sources_of}
 use Rattle.bounds.specs.declared.answers.Ask.{Ask}
 use Rattle.bounds.specs.declared.delays.Lag.{Lag}
 use Rattle.bounds.specs.declared.spans.Span.{Span}
+
+-- named by the file of the spans: what unfolds this unfolds all these
+unfoldable pub opened : ℕ
+unfolding span_of range without idle_use precharged when bank_at banks is code kind_of bank_of carries bare command_of
+opened = 0
 
 -- no command but REFpb goes by the counter, and REFpb names no bank
 pub own_bank : (c : Command) → bank_at c 0 ≡ bank_of c

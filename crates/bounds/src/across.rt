@@ -26,6 +26,7 @@ fn beyond(wanted: bool, found: Found, lag: Lag, clocks: u64, gap: u32) -> u64
     permits(found, lag, clocks) + gap as u64
 }
 
+#[tactic(auto, using(crate::proofs::Ruled::across_are), unfolding(crate::proofs::Ruled::opened))]
 pub fn across(theirs: Bus, d: Delays, command: Command) -> [u64; 3]
     ensures { result ≡ across_of theirs d command 25 ∷ across_of theirs d command 26 ∷ across_of theirs d command 27 ∷ [] }
 {

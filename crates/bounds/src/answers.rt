@@ -104,6 +104,7 @@ fn of_noted_each(x: NotedEach, bank: usize) -> Found
 }
 
 // A precharge counts unless the other kind came later.
+#[tactic(auto, unfolding(bank::specs::Values::outweighed))]
 fn unless_later(x: Once, other: Once) -> Found
     ensures { result ≡ found_as (x.seen && not (outweighed x.seen other.seen x.at other.at)) x.at no_modes }
 {
@@ -114,18 +115,21 @@ fn unless_later(x: Once, other: Once) -> Found
     }
 }
 
+#[tactic(auto, using(crate::proofs::Kept::first_unless), unfolding(bank::specs::Values::each))]
 fn of_pre(pre: Each, prea: Once, bank: usize) -> Found
     ensures { answer_of result ≡ get_elem? (cond (outweighed (get_or pre.seen bank false) prea.seen (get_or pre.at bank 0) prea.at) [] (each pre bank)) 0 }
 {
     unless_later(each_at(pre, bank), prea)
 }
 
+#[tactic(auto, using(crate::proofs::Kept::first_unless), unfolding(bank::specs::Values::once))]
 fn of_prea(pre: Each, prea: Once, bank: usize) -> Found
     ensures { answer_of result ≡ get_elem? (cond (outweighed prea.seen (get_or pre.seen bank false) prea.at (get_or pre.at bank 0)) [] (once prea)) 0 }
 {
     unless_later(prea, each_at(pre, bank))
 }
 
+#[tactic(auto, using(crate::proofs::Kept::fourth_kept))]
 fn of_four(x: Four) -> Found
     ensures { answer_of result ≡ get_elem? (four x) 3 }
 {
@@ -136,6 +140,7 @@ fn of_four(x: Four) -> Found
     }
 }
 
+#[tactic(auto, using(crate::proofs::Kept::first_once, crate::proofs::Kept::first_kept), unfolding(crate::proofs::Kept::opened))]
 pub fn look(share: Share, ask: Ask, bank: usize) -> Found
     ensures { answer_of result ≡ look_in (share_of share).history (asked_for ask bank) }
 {

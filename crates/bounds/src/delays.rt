@@ -22,6 +22,7 @@ pub enum Lag {
     Recovered(u32),
 }
 
+#[tactic(auto, unfolding(crate::specs::Parts::delay_in, card::specs::Values::modes_of))]
 fn delay_by(lag: Lag, clocks: u64, modes: Modes) -> u64
     requires { clocks < 2 ^ 40 }
     ensures { (result ≡ delay_in lag clocks (modes_of modes)) × (result < 2 ^ 41) }
@@ -48,6 +49,7 @@ fn delay_by(lag: Lag, clocks: u64, modes: Modes) -> u64
     }
 }
 
+#[tactic(auto, unfolding(crate::specs::Parts::permitted_after, crate::specs::Parts::answer_of))]
 pub fn permits(found: Found, lag: Lag, clocks: u64) -> u64
     requires { clocks < 2 ^ 40 }
     ensures { (result ≡ permitted_after lag clocks (answer_of found)) × (result < 2 ^ 42) }

@@ -15,6 +15,7 @@ use card::Delays;
 use pins::{Command, Move};
 
 // The number of the rule at a place of the table.
+#[tactic(auto, unfolding(crate::specs::Parts::rule_at))]
 fn rule_at(i: u8) -> u8
     requires { i < 25 }
     ensures { result ≡ rule_at i }
@@ -57,6 +58,7 @@ fn greatest(bounds: [u64; 25]) -> u64
 
 // 10, of an entry that is judged as the command and moves so, the other part's bus being `theirs`: the lowest rule whose first permitted cycle is past the
 // stamp, with that cycle.
+#[tactic(auto, using(crate::proofs::Ruled::broken_is))]
 pub fn first_broken(
     share: Share,
     theirs: Bus,
@@ -71,6 +73,7 @@ pub fn first_broken(
 }
 
 // The first cycle at which the rules let such an entry come.
+#[tactic(auto, using(crate::proofs::Ruled::greatest_is))]
 pub fn first_cycle(share: Share, theirs: Bus, delays: Delays, command: Command, moved: Move) -> u64
     ensures { result ≡ rules.greatest (look_with share theirs) (delay_rules (clocks_of delays) (command_of command) (moved_of moved) share.counter) }
 {

@@ -5,6 +5,7 @@ ghost use Rattle.pins.specs.Values.{moved_of};
 
 use pins::Move;
 
+#[tactic(auto, unfolding(rules::specs::Levels::is_fall, pins::specs::Values::moved_of))]
 pub fn falls(moved: Move) -> bool
     ensures { result ≡ is_fall (moved_of moved) }
 {
@@ -15,6 +16,7 @@ pub fn falls(moved: Move) -> bool
     }
 }
 
+#[tactic(auto, unfolding(rules::specs::Levels::is_rise, pins::specs::Values::moved_of))]
 pub fn rises(moved: Move) -> bool
     ensures { result ≡ is_rise (moved_of moved) }
 {

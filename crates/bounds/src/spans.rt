@@ -1,4 +1,6 @@
 // The banks for which a command is asked.
+#![tactic(auto, using(crate::proofs::Spanned::own_bank), unfolding(crate::proofs::Spanned::opened))]
+
 ghost use Rattle.std.specs.Prelude.{◌≡◌, [], ◌∷◌};
 ghost use Rattle.rules.specs.Lists.{when};
 ghost use Rattle.rules.specs.Commands.{banks, code, kind_of};

@@ -1,5 +1,7 @@
 // The first cycles that the rules permit, for a command, with its move of clock-enable, that comes to a record. A rule that does not speak of them asks
 // for no bank: 0.
+#![tactic(auto, using(crate::proofs::Ruled::by_rule), unfolding(crate::proofs::Ruled::opened))]
+
 ghost use Rattle.std.specs.Prelude.{◌≡◌, [], ◌∷◌};
 ghost use Rattle.rules.specs.Levels.{stays};
 ghost use Rattle.pins.specs.Values.{moved_of};

@@ -28,7 +28,9 @@ not_here p x n = ⊎_elim
 unlisted : {T : Type 0} (p d : ℕ) (xs : List Recovery) → Unlisted T p xs → T × (at_pair (p / 8) (p % 8) d xs ≡ d)
 unfolding Unlisted at_pair
 unlisted p d [] m = (m, refl)
-unlisted p d (x ∷ xs) m = let q = unlisted p d xs m in (q.0.0, rw (not_here p x q.0.1) q.1)
+unlisted {T = T} p d (x ∷ xs) m =
+    let q = unlisted {T = T × (p ≡ x.op4 * 8 + x.code → ⊥)} p d xs m in
+    (q.0.0, rw (not_here p x q.0.1) q.1)
 
 pub no_recovery : (p d : ℕ) → Unlisted (Unit {0}) p recoveries → recovery_at p d ≡ d
 unfolding recovery_at

@@ -49,7 +49,8 @@ module _ {q : Bool} where
   only_from (stops_more {room} {st} {bs} r e) (suc k) l = by_turn k q room st bs true Wait r e
   only_from (stops_over {room} {st} {bs} {v} r e) (suc k) l = by_turn k q room st bs true (End v) r e
   only_from (takes {room} {st} {bs} {n} r e w) (suc k) l =
-      by_turn k q room st bs true (On n) r e ∙ ap (behind n (line_if q st bs)) (only_from w k (shorter k st bs n e l))
+      by_turn k q room st bs true (On n) r e ∙
+      ap (behind n (line_if q st bs)) (only_from {room = room - length (line_if q st bs)} {st = (took_of st bs).state} {bs = drop n bs} w k (shorter k st bs n e l))
 
   pub only : {room : ℕ} {st : State} {bs : List ℕ} {h : Heard} → Walk q room st bs h → heard_of q room st bs ≡ h
   unfolding heard_of

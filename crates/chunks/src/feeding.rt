@@ -9,6 +9,7 @@ use bank::Record;
 use lines::Owed;
 
 // Before the first byte.
+#[tactic(auto, unfolding(crate::specs::Heard::start_of))]
 pub fn start() -> State
     ensures { result ≡ start_of }
 {
@@ -70,6 +71,7 @@ pub fn feed(state: State, bytes: &[u8], out: &mut [u8], quiet: bool) -> Fed
 }
 
 // By each part that there is.
+#[tactic(auto, unfolding(crate::specs::Heard::owed_of))]
 fn owed_in(rec: Record) -> Owed
     ensures { result ≡ owed_of rec }
 {
@@ -79,6 +81,7 @@ fn owed_in(rec: Record) -> Owed
     Owed::One(rec.first.ledger.owed)
 }
 
+#[tactic(auto, unfolding(crate::specs::Heard::ended_at))]
 fn ended(state: State) -> Verdict
     ensures { result ≡ ended_at state }
 {

@@ -24,6 +24,7 @@ pub struct Took {
 }
 
 // So many bytes further on. The sum goes round at 2^64.
+#[tactic(auto, unfolding(crate::specs::Took::wrapped))]
 fn further(offset: u64, size: usize) -> u64
     ensures { result ≡ took.wrapped (offset + size) }
 {
@@ -44,6 +45,7 @@ fn refused(state: State, number: u8, rule: u8, cycle: u64) -> Took
     }
 }
 
+#[tactic(auto, using(crate::proofs::Taking::card_refused, crate::proofs::Taking::card_taken))]
 fn take_card(state: State, bytes: &[u8]) -> Took
     requires { 3 ≤ length bytes.now }
     ensures { result ≡ took.card_took state (field_in bytes.now) }
@@ -69,6 +71,7 @@ fn take_card(state: State, bytes: &[u8]) -> Took
 }
 
 // An entry of pins that is not taken.
+#[tactic(auto, using(crate::proofs::Taking::entry_refused_lem))]
 fn take_entry(state: State, bytes: &[u8]) -> Took
     requires { NotTaken state.rec bytes.now }
     ensures { result ≡ took.entry_took state (field_in bytes.now) }
@@ -105,6 +108,7 @@ fn take_sensed(state: State, bytes: &[u8]) -> Took
 }
 
 // The state behind the end: the record's ledgers then stand at E.
+#[tactic(auto, unfolding(crate::specs::Parts::end_on, crate::specs::Took::record_closed))]
 fn end_on(state: State, ledgers: Ledgers) -> State
     ensures { result ≡ end_on state ledgers }
 {
@@ -144,6 +148,7 @@ fn take_end(state: State, bytes: &[u8]) -> Took
 }
 
 // A field that is whole, and no entry of pins that is taken.
+#[tactic(auto, unfolding(crate::specs::Took::field_took, rules::specs::Form::of_entry, crate::specs::Parts::field_in))]
 fn take_whole(state: State, bytes: &[u8]) -> Took
     requires in_bounds { (3 ≤ length bytes.now) × (form.length_good (slice_index bytes.now 0) (length bytes.now - 3) ≡ true) }
     requires not_taken { slice_index bytes.now 0 ≡ 32 → NotTaken state.rec bytes.now }
@@ -163,6 +168,7 @@ fn take_whole(state: State, bytes: &[u8]) -> Took
 }
 
 // Behind the end field.
+#[tactic(auto, using(crate::proofs::Taking::behind_none, crate::proofs::Taking::behind_some))]
 fn take_behind(state: State, bytes: &[u8]) -> Took
     ensures { result ≡ took.behind_took state bytes.now }
 {

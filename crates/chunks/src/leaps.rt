@@ -15,6 +15,7 @@ pub struct Ahead {
     pub state: State,
 }
 
+#[tactic(auto, unfolding(crate::specs::Parts::state_with, crate::specs::Took::wrapped))]
 pub fn state_with(state: State, ran: Ran) -> State
     ensures { result ≡ state_with state ran }
 {

@@ -8,6 +8,7 @@ ghost use Rattle.chunks.specs.Parts.{told_of};
 #[derive(Clone, Copy)]
 pub struct Told(pub u8, pub u8, pub u64);
 
+#[tactic(auto, unfolding(crate::specs::Parts::told_of, step::specs::Values::refusal_of))]
 pub fn of_step(answer: step::Answer) -> Told
     ensures { told_of result ≡ stepped.refusal_of answer }
 {

@@ -6,6 +6,7 @@ ghost use Rattle.chunks.specs.Values.{verdict_of};
 use crate::Verdict;
 
 // At the start of the slice, where that has room for any line: 64 bytes.
+#[tactic(auto, unfolding(crate::specs::Values::verdict_of))]
 pub fn verdict_line(out: &mut [u8], verdict: Verdict) -> usize
     ensures { Written (verdict_line (verdict_of verdict)) out.old out.new result }
 {

@@ -23,7 +23,7 @@ use Rattle.pins.specs.declared.Wrote.TheVariants.{Done}
 use Rattle.pins.specs.Values.{command_of, decoded_of, level_of, read_of, told_of}
 use Rattle.pins.proofs.Values.{one_decoded, decoded_as, read_as}
 use Rattle.pins.proofs.Written.{for_one}
-use Rattle.pins.proofs.Calls.{Decodes, ReadsPins, Writing, paired, told, stamp, command, buffer, Writes, taken, fits, pins, Reading, Reads, Of, puts, fitted, reads}
+use Rattle.pins.proofs.Calls.{Decodes, ReadsPins, Writing, paired, told, stamp, command, buffer, Writes, taken, fits, Reading, Reads, Of, puts, fitted, reads}
 
 -- ---- low clock-enable
 -- what is read as a command is decoded as it, at whatever level, so that what is said below of decoded commands is said of all entries: moves and entries asleep

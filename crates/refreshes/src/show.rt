@@ -1,7 +1,9 @@
 // A ledger moved on or taken through an entry's cycle, and its line.
 use ledger::{After, Answer, Effect, Ledger, Pace};
-use libc::STDOUT_FILENO;
 use pins::{Level, Move};
+
+// The standard output's descriptor.
+const STDOUT: i32 = 1;
 
 pub fn lent(at: u32, owed: u8, since: u32, skipped: u32, level: Level) -> Ledger {
     Ledger {
@@ -19,8 +21,8 @@ pub fn stands(at: u32, owed: u8, since: u32) -> Ledger {
 }
 
 fn put(n: u64) {
-    io::print_decimal(STDOUT_FILENO, n);
-    io::write_all(STDOUT_FILENO, b" ");
+    io::print_decimal(STDOUT, n);
+    io::write_all(STDOUT, b" ");
 }
 
 fn put_refusal(number: u64, rule: u64, cycle: u64) {
@@ -56,8 +58,8 @@ pub fn show(after: After) -> Ledger {
     put(ledger.owed as u64);
     put(ledger.since as u64);
     put(ledger.skipped as u64);
-    io::print_decimal(STDOUT_FILENO, depth(level));
-    io::write_all(STDOUT_FILENO, b"\n");
+    io::print_decimal(STDOUT, depth(level));
+    io::write_all(STDOUT, b"\n");
     ledger
 }
 
@@ -115,8 +117,8 @@ pub fn refreshed(ledger: Ledger, stamp: u32) -> Ledger {
 
 // A line of one number, and one of a pace.
 pub fn show_number(n: u64) {
-    io::print_decimal(STDOUT_FILENO, n);
-    io::write_all(STDOUT_FILENO, b"\n");
+    io::print_decimal(STDOUT, n);
+    io::write_all(STDOUT, b"\n");
 }
 
 pub fn show_pace(pace: Pace) -> Pace {

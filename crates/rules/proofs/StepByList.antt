@@ -1,6 +1,6 @@
--- The record that stands for an accepted past answers as the list does: a step, the end and a moved_on ledger, from the ledgers' cycles on; below one of them
+-- The record that stands for an accepted past answers as the list does: a step, the end and a moved-on ledger, from the ledgers' cycles on; below one of them
 -- they answer 5. After a step it stands for the longer past. Each part's share stands for its own entries.
-use Prim.Native.Nat.{ℕ, suc, ◌-◌, ◌≤◌, ◌<◌, max}
+use Prim.Native.Nat.{ℕ, suc, ◌≤◌, ◌<◌, max}
 use mathlib.Core.Path.{◌≡◌, refl, ap, sym, ◌∙◌, subst, fun_ext}
 use mathlib.Core.Logic.{⊎_elim}
 use mathlib.Core.Bool.{Bool, true, false, cond, ◌&&◌, and-true, and-false}
@@ -430,7 +430,7 @@ module _ (card : Card) (past : Past) (c : ℕ → ℕ) (good : card_good card �
       (λ p i. rw (ledger_is p i) (unfold moved_on in ap (λ (g : Ledger). g.owing) (ledger_moved p i end (h p i))))
       ∙ sym (ledgers_parts card past end)
 
-  -- ---- a moved_on ledger, of part p
+  -- ---- a moved-on ledger, of part p
   module _ (p : ℕ) (i : IsPart card p) where
     pub move_below : (d : ℕ) → d < stands_at past c p → move_refusal card (standing card past c).pace (ledger_at card (of_part p past) (stands_at past c p)) d ≡ some (refusal 5 0 0)
     unfolding move_refusal first_of or_else unless

@@ -1,20 +1,22 @@
 // The lines that are written.
 use bank::Paid;
 use ledger::After;
-use libc::STDOUT_FILENO;
 use pins::Wrote;
 use step::Answer;
 
+// The standard output's descriptor.
+const STDOUT: i32 = 1;
+
 fn number(n: u64) {
-    io::print_decimal(STDOUT_FILENO, n);
+    io::print_decimal(STDOUT, n);
 }
 
 fn blank() {
-    io::write_all(STDOUT_FILENO, b" ");
+    io::write_all(STDOUT, b" ");
 }
 
 fn newline() {
-    io::write_all(STDOUT_FILENO, b"\n");
+    io::write_all(STDOUT, b"\n");
 }
 
 pub fn of_case(case: u32) {
@@ -23,7 +25,7 @@ pub fn of_case(case: u32) {
 }
 
 fn refused(no: u64, rule: u64, cycle: u64) {
-    io::write_all(STDOUT_FILENO, b"refused ");
+    io::write_all(STDOUT, b"refused ");
     number(no);
     blank();
     number(rule);
@@ -33,7 +35,7 @@ fn refused(no: u64, rule: u64, cycle: u64) {
 }
 
 fn taken() {
-    io::write_all(STDOUT_FILENO, b"taken\n");
+    io::write_all(STDOUT, b"taken\n");
 }
 
 pub fn of_step(answer: Answer) {
@@ -56,7 +58,7 @@ pub fn of_step(answer: Answer) {
 // The ledger's number, to which the code adds 8.
 fn owing(owed: u8) {
     if owed < 8 {
-        io::write_all(STDOUT_FILENO, b"-");
+        io::write_all(STDOUT, b"-");
         number((8 - owed) as u64);
     } else {
         number((owed - 8) as u64);
@@ -105,7 +107,7 @@ pub fn of_move(after: After) {
 }
 
 pub fn of_change() {
-    io::write_all(STDOUT_FILENO, b"changed\n");
+    io::write_all(STDOUT, b"changed\n");
 }
 
 // Three bytes of pins, or the writer's refusal.
@@ -129,10 +131,10 @@ fn of_three(a: u8, b: u8, c: u8) {
 // The part, in front of what is read.
 pub fn of_part(first: bool, second: bool) {
     if first {
-        io::write_all(STDOUT_FILENO, b"0 ");
+        io::write_all(STDOUT, b"0 ");
     }
     if second {
-        io::write_all(STDOUT_FILENO, b"1 ");
+        io::write_all(STDOUT, b"1 ");
     }
 }
 

@@ -2,11 +2,8 @@
 use Prim.Native.Nat.{ℕ}
 use mathlib.Core.Path.{◌≡◌, refl, ap, sym, ◌∙◌}
 use mathlib.Core.Bool.{Bool, true, false}
-use mathlib.Core.List.{[], ◌∷◌}
 use mathlib.Core.Option.{Option, none, some}
 use native.Mathlib.Omega.{arith}
-use denote.Enum.Declared.{tag_of}
-use types.Run.{OneOf, miss}
 use Rattle.rules.specs.Whose.{Whose}
 use Rattle.rules.specs.Levels.{Read}
 use Rattle.rules.specs.Folds.{or_else}
@@ -16,26 +13,15 @@ use Rattle.ledger.specs.Values.{is_none}
 use Rattle.bank.specs.declared.Record.{Record}
 use Rattle.bank.specs.After.{Changed}
 use Rattle.step.specs.declared.Answer.{Answer}
-use Rattle.step.specs.declared.Answer.TheVariants.{Taken, BadRecord, Early, Overdue, WrongBits, Clash, Reserved, State, Barred, Value, Code, TooSoon}
+use Rattle.step.specs.declared.Answer.TheVariants.{Taken}
 use Rattle.step.specs.declared.offering.Ruling.{Ruling}
 use Rattle.step.specs.Values.{refusal_of}
 use Rattle.step.specs.Parts.{pace_as, Settled}
-use Rattle.step.specs.contracts.Answer.{the_type}
 
-pub not_taken : (x : Answer) → OneOf (1 ∷ 2 ∷ 3 ∷ 4 ∷ 5 ∷ 6 ∷ 7 ∷ 8 ∷ 9 ∷ 10 ∷ 11 ∷ []) (tag_of the_type x) → is_none (refusal_of x) ≡ false
+pub not_taken : (x : Answer) → (x ≡ Taken → ⊥) → is_none (refusal_of x) ≡ false
 unfolding refusal_of is_none
-not_taken Taken o = absurd (miss (1 ∷ 2 ∷ 3 ∷ 4 ∷ 5 ∷ 6 ∷ 7 ∷ 8 ∷ 9 ∷ 10 ∷ 11 ∷ []) 0 tt o)
-not_taken BadRecord o = refl
-not_taken Early o = refl
-not_taken (Overdue q t) o = refl
-not_taken WrongBits o = refl
-not_taken Clash o = refl
-not_taken Reserved o = refl
-not_taken State o = refl
-not_taken Barred o = refl
-not_taken Value o = refl
-not_taken Code o = refl
-not_taken (TooSoon q t) o = refl
+not_taken Taken h = absurd (h refl)
+not_taken x h = refl
 
 apart : true ≡ false → ⊥
 apart e = let z : ◌≡◌ {A = ℕ} 0 1 = cc in omega arith

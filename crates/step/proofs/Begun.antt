@@ -1,13 +1,13 @@
 -- A quick run begins with its record, and ends with the record put together; what its loop keeps.
 use Prim.Native.Nat.{ℕ, zero, suc, ◌-◌, ◌*◌, ◌/◌, ◌≤◌, min}
 use mathlib.Core.Path.{◌≡◌, refl, ap, sym, ◌∙◌}
-use mathlib.Core.Bool.{Bool, true, false, not, ◌&&◌}
+use mathlib.Core.Bool.{Bool, true, false, ◌&&◌}
 use mathlib.Core.List.{List}
 use native.Mathlib.Nat.{lt_trans, sub-zero}
 use native.Mathlib.Omega.{arith}
 use lib.Dec.{ltb}
 use lib.ListN.{length, drop}
-use borrow.Author.Tests.{lt-ltb, ltb-true, not-true, not-false}
+use borrow.Author.Tests.{lt-ltb, ltb-true}
 use Rattle.rules.specs.Lent.{ledger_to, move_refusal, moved_on}
 use Rattle.rules.proofs.Tests.{both_true}
 use Rattle.rules.proofs.Ledgers.{as_it_was}
@@ -98,12 +98,12 @@ module _ (d : Delays) (rec : Single) (bs : List ℕ) where
   begins e most = rw (begins_there e) (sym (from_start (quick_of most d rec bs)))
 
   module _ (end : ℕ) (es : end ≡ deadline_of rec.card rec.pace rec.share.ledger) (ok : Bool) (os : ok ≡ (stands_of rec && ltb rec.last.at end)) (most : ℕ) where
-    pub unbegun : not ok ≡ true → gone rec 0 0 0 ≡ quick_of most d rec bs
-    unbegun n = not_begun (sym (rw es at os) ∙ not-true ok n) most
+    pub unbegun : ok ≡ false → gone rec 0 0 0 ≡ quick_of most d rec bs
+    unbegun n = not_begun (sym (rw es at os) ∙ n) most
 
-    pub begun : not ok ≡ false → Going d rec bs most rec.share.banks rec.share.bus rec.share.four rec.last.at 0 0
+    pub begun : ok ≡ true → Going d rec bs most rec.share.banks rec.share.bus rec.share.four rec.last.at 0 0
     begun n =
-        let p = both_true (stands_of rec) _ (sym os ∙ not-false ok n) in
+        let p = both_true (stands_of rec) _ (sym os ∙ n) in
         record {
           same = rw (sub-zero most) (begins p.0 most);
           kept = refl;

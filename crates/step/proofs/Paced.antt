@@ -2,10 +2,7 @@
 use Prim.Native.Nat.{ℕ}
 use mathlib.Core.Path.{◌≡◌, refl, ap, sym, ◌∙◌}
 use mathlib.Core.Bool.{Bool}
-use mathlib.Core.List.{[], ◌∷◌}
 use mathlib.Core.Option.{Option, none}
-use denote.Enum.Declared.{tag_of}
-use types.Run.{OneOf, miss}
 use Rattle.rules.specs.Card.{Card}
 use Rattle.rules.specs.Levels.{Level, read_pins}
 use Rattle.rules.specs.Entries.{entry, read_body, read, mr4_of}
@@ -14,9 +11,8 @@ use Rattle.rules.specs.Lent.{read_in, mr4_in, pace_by, pace_with}
 use Rattle.rules.proofs.Waking.{read_alone_lem}
 use Rattle.rules.proofs.Paces.{pins_senseless}
 use Rattle.pins.specs.declared.Read.{Read}
-use Rattle.pins.specs.declared.Read.TheVariants.{Plain, Moved, Asleep, Barred, Clash, Sensed}
+use Rattle.pins.specs.declared.Read.TheVariants.{Sensed}
 use Rattle.pins.specs.Values.{read_of}
-use Rattle.pins.specs.contracts.Read.{the_type}
 use Rattle.ledger.specs.declared.Pace.{Pace}
 use Rattle.ledger.specs.Values.{pace_of, pace_in}
 use Rattle.ledger.proofs.Promises.{pace_is}
@@ -26,14 +22,10 @@ use Rattle.step.specs.declared.single.Single.{Single}
 use Rattle.step.specs.Single.{read_alone, read_by, spaced_by}
 
 -- no other reading has a value
-pub not_sensed : (x : Read) → OneOf (0 ∷ 1 ∷ 2 ∷ 3 ∷ 4 ∷ []) (tag_of the_type x) → mr4_of (read_of x) ≡ none
+pub not_sensed : (x : Read) → ((v : ℕ) → x ≡ Sensed v → ⊥) → mr4_of (read_of x) ≡ none
 unfolding read_of mr4_of
-not_sensed (Plain d) o = refl
-not_sensed (Moved m) o = refl
-not_sensed Asleep o = refl
-not_sensed Barred o = refl
-not_sensed Clash o = refl
-not_sensed (Sensed v) o = absurd (miss (0 ∷ 1 ∷ 2 ∷ 3 ∷ 4 ∷ []) 5 tt o)
+not_sensed (Sensed v) h = absurd (h v refl)
+not_sensed x h = refl
 
 pub pace_back : (p : lent.Pace) → pace_of (pace_in p) ≡ p
 unfolding pace_of pace_in

@@ -1,14 +1,14 @@
 -- An entry of a quick run: it stops there, or goes on from the record after it.
 use Prim.Native.Nat.{ℕ, zero, suc, ◌+◌, ◌-◌, ◌*◌, ◌/◌, ◌≤◌, ◌<◌, min}
 use mathlib.Core.Path.{◌≡◌, refl, ap, sym, ◌∙◌}
-use mathlib.Core.Bool.{Bool, true, false, cond, not, ◌&&◌}
+use mathlib.Core.Bool.{Bool, true, false, cond, ◌&&◌}
 use mathlib.Core.List.{List}
 use native.Mathlib.Nat.{le_trans, le_of_lt}
 use native.Mathlib.Omega.{arith}
 use lib.Dec.{ltb}
 use lib.ListN.{length, get_or, take, drop, length-take, length-drop}
 use lib.Seq.{drop-drop}
-use borrow.Author.Tests.{le-leb, ltb-true, eq-eqb, not-true, not-false}
+use borrow.Author.Tests.{le-leb, ltb-true, eq-eqb}
 use Rattle.rules.specs.Commands.{NOP, is}
 use Rattle.rules.specs.Pins.{decode}
 use Rattle.rules.specs.Levels.{awake, depth, same_level}
@@ -103,17 +103,17 @@ module _ {d : Delays} {rec : Single} {v : List ℕ} {most : ℕ} {banks : Banks}
   abbrev commands : ℕ
   commands = used / 10 - nops
 
-  pub stopped : not ok ≡ true → gone now used commands 0 ≡ quick_of most d rec v
+  pub stopped : ok ≡ false → gone now used commands 0 ≡ quick_of most d rec v
   stopped n = sym (g.same ∙ ap (gone_behind used commands 0) (go left refl) ∙ behind_none (gone now used commands 0))
     where
       go : (k : ℕ) → left ≡ k → quick_of k d now (drop used v) ≡ gone now 0 0 0
       go zero e = unfold quick_of in refl
-      go (suc k) e = from_here k e ∙ rw (not-true ok n)
+      go (suc k) e = from_here k e ∙ rw n
 
-  module _ (yes : not ok ≡ false) where
+  module _ (yes : ok ≡ true) where
     parts : (f.whole ≡ true) × (ltb u f.stamp ≡ true) × (ltb f.stamp end ≡ true) × (clear ≡ true)
     parts =
-        let a = both_true _ _ (sym s.passes ∙ not-false ok yes) in
+        let a = both_true _ _ (sym s.passes ∙ yes) in
         let c = both_true _ _ a.1 in
         let e = both_true _ _ c.0 in
         (a.0, e.0, e.1, c.1)
@@ -148,7 +148,7 @@ module _ {d : Delays} {rec : Single} {v : List ℕ} {most : ℕ} {banks : Banks}
         let n : left ≡ suc (most - (used + 10) / 10) = omega (arith, g.whole, room) in
         let x = quick_of (most - (used + 10) / 10) d (now_of rec banks' bus' four' t) (drop (used + 10) v) in
         let y : quick_of left d now (drop used v) ≡ gone_behind 10 (hot_count h) 0 x =
-        ap (λ (k : ℕ). quick_of k d now (drop used v)) n ∙ from_here _ n ∙ rw (not-false ok yes, ← r, ← c, drop-drop 10 used v) in
+        ap (λ (k : ℕ). quick_of k d now (drop used v)) n ∙ from_here _ n ∙ rw (yes, ← r, ← c, drop-drop 10 used v) in
         record {
           same = g.same ∙ ap (gone_behind used commands 0) y ∙ behind_twice used commands 0 10 (hot_count h) 0 x ∙ ap (λ (m : ℕ). gone_behind (used + 10) m 0 x) more_commands;
           kept = ap (λ (y : Banks). y.refpb) bs ∙ refpb_kept h b a t rec.share.modes banks ∙ g.kept;
