@@ -2,8 +2,14 @@
 // Behind the word --cuts: the name, and the verdict of every cut, from no bytes to all. The files, and what must come out, are written by expected.py.
 #![tactic(auto)]
 
+ghost use Rattle.std.specs.Prelude.{◌≤◌, IfOk, length};
+
+use anyhow::{Context, Result};
 use chunks::{State, Verdict, What};
-use libc::STDOUT_FILENO;
+use std::env::FillError;
+use std::fs;
+use std::io::Read;
+use std::rt::{Env, Files};
 
 // A file half judged: the bytes before `at` are, and those from `end` on are still to come.
 #[derive(Clone, Copy)]
@@ -14,26 +20,27 @@ struct Walk {
     end: usize,
 }
 
-fn say(verdict: Verdict) {
+fn say(rt: &impl Print, verdict: Verdict) -> Result<()> {
     let mut line = [0u8; 64];
     let size = chunks::verdict_line(&mut line, verdict);
-    put(&line, size);
+    put(rt, &line, size)
 }
 
-fn put(out: &[u8], size: usize) {
+fn put(rt: &impl Print, out: &[u8], size: usize) -> Result<()> {
     if size <= out.len() {
-        io::write_all(STDOUT_FILENO, &out[..size]);
+        rt.write_all(&out[..size]).context("standard output")?;
     }
+    Ok(())
 }
 
-fn over(state: State, verdict: Verdict) -> Walk {
-    say(verdict);
-    Walk {
+fn over(rt: &impl Print, state: State, verdict: Verdict) -> Result<Walk> {
+    say(rt, verdict)?;
+    Ok(Walk {
         going: false,
         state: state,
         at: 0,
         end: 0,
-    }
+    })
 }
 
 // Seven bytes more, as far as there are any.
@@ -48,49 +55,49 @@ fn further(end: usize, size: usize) -> usize {
 }
 
 // One call of the judge on the bytes from `at` to `end`. There is room for one line in it.
-fn piece(walk: Walk, file: &[u8]) -> Walk {
+fn piece(rt: &impl Print, walk: Walk, file: &[u8]) -> Result<Walk> {
     let state = walk.state;
     let at = walk.at;
     let end = walk.end;
     if file.len() < end {
-        return walk;
+        return Ok(walk);
     }
     if end < at {
-        return walk;
+        return Ok(walk);
     }
     let mut line = [0u8; 64];
     let fed = chunks::feed(state, &file[at..end], &mut line, false);
-    put(&line, fed.wrote);
+    put(rt, &line, fed.wrote)?;
     let what = fed.what;
     let next = fed.state;
     let left = std::num::wrapping_add_usize(at, fed.used);
     match what {
-        What::Over(verdict) => over(next, verdict),
-        What::Full => Walk {
+        What::Over(verdict) => over(rt, next, verdict),
+        What::Full => Ok(Walk {
             going: true,
             state: next,
             at: left,
             end: end,
-        },
-        What::More => more(next, file, left, end),
+        }),
+        What::More => more(rt, next, file, left, end),
     }
 }
 
-fn more(state: State, file: &[u8], at: usize, end: usize) -> Walk {
+fn more(rt: &impl Print, state: State, file: &[u8], at: usize, end: usize) -> Result<Walk> {
     if file.len() <= end {
         if at <= file.len() {
-            return over(state, chunks::finish(state, &file[at..]));
+            return over(rt, state, chunks::finish(state, &file[at..]));
         }
     }
-    Walk {
+    Ok(Walk {
         going: true,
         state: state,
         at: at,
         end: further(end, file.len()),
-    }
+    })
 }
 
-fn pieces(file: &[u8]) {
+fn pieces(rt: &impl Print, file: &[u8]) -> Result<()> {
     let mut walk = Walk {
         going: true,
         state: chunks::start(),
@@ -100,58 +107,74 @@ fn pieces(file: &[u8]) {
     let mut turns = u64::MAX;
     while turns > 0 {
         turns -= 1;
-        walk = piece(walk, file);
+        walk = piece(rt, walk, file)?;
         if !walk.going {
             turns = 0;
         }
     }
+    Ok(())
 }
 
-fn cuts(file: &[u8]) {
+fn cuts(rt: &impl Print, file: &[u8]) -> Result<()> {
     let mut size: usize = 0;
     while size < file.len() {
-        say(judge::judge(&file[..size]));
+        say(rt, judge::judge(&file[..size]))?;
         size += 1;
     }
-    say(judge::judge(file));
+    say(rt, judge::judge(file))
 }
 
-fn judge_file(path: &[u8], cut: bool) {
-    let fd = os::open_read(path);
-    if fd < 0 {
-        os::fail(path);
-        return;
+// The bytes of the file, as many as there is room for, and how many these are.
+fn read_full(file: &mut impl Read, room: &mut [u8]) -> std::io::Result<usize>
+    ensures { IfOk result (λ n. n ≤ length room.new) }
+{
+    let mut have: usize = 0;
+    while have < room.len() {
+        let more = file.read(&mut room[have..])?;
+        if more == 0 {
+            break;
+        }
+        have += more;
     }
+    Ok(have)
+}
+
+fn judge_file(rt: &(impl Files + Print), path: &str, cut: bool) -> Result<()> {
     let mut buf = io::large_buffer();
-    let size = io::read_full(fd, &mut buf);
-    libc::close(fd);
-    io::write_all(STDOUT_FILENO, path);
-    io::write_all(STDOUT_FILENO, b"\n");
+    let mut file = fs::open(rt, path).context(path)?;
+    let size = read_full(&mut file, &mut buf).context(path)?;
+    rt.println(path).context("standard output")?;
     if cut {
-        cuts(&buf[..size]);
+        cuts(rt, &buf[..size])
     } else {
-        pieces(&buf[..size]);
-        say(judge::judge(&buf[..size]));
+        pieces(rt, &buf[..size])?;
+        say(rt, judge::judge(&buf[..size]))
     }
 }
 
 // A path, or the word behind which the cuts are judged. Whether they are from here on.
-fn argument(i: usize, cut: bool) -> bool {
+fn argument(rt: &(impl Env + Files + Print), i: usize, cut: bool) -> Result<bool> {
     let mut word = io::buffer();
-    let size = os::arg(i, &mut word);
+    let size = rt.arg(i, &mut word).ok().context("a path is too long")?;
     if check::same(&word[..size], b"--cuts") {
-        return true;
+        return Ok(true);
     }
-    judge_file(&word[..size], cut);
-    cut
+    judge_file(rt, str::from_utf8(&word[..size])?, cut)?;
+    Ok(cut)
 }
 
-fn main() {
-    let words = os::arg_count();
+fn is_there(rt: &impl Env, i: usize) -> bool {
+    let mut word = [0u8; 1];
+    !matches!(rt.arg(i, &mut word), Err(FillError::NotPresent))
+}
+
+fn main(rt: HostRuntime) -> Result<()> {
     let mut cut = false;
-    let mut i: usize = 1;
-    while i < words {
-        cut = argument(i, cut);
-        i += 1;
+    for i in 1..usize::MAX {
+        if !is_there(&rt, i) {
+            break;
+        }
+        cut = argument(&rt, i, cut)?;
     }
+    Ok(())
 }

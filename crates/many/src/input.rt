@@ -1,36 +1,42 @@
 // Bytes of standard input, and the length of a trace.
 ghost use Rattle.std.specs.Prelude.{◌≤◌, ◌<◌, length};
 
-use libc::{STDERR_FILENO, STDIN_FILENO};
+use std::io::Read;
 
-// One read. How many bytes came: none where the input ends, or where the read fails, which it says.
-pub fn read_some(room: &mut [u8]) -> usize
-    ensures { result ≤ length room.new }
-{
-    let got = libc::read(STDIN_FILENO, room);
-    if got < 0 {
-        os::fail(b"many: standard input");
-        return 0;
-    }
-    io::count(got, room)
+// Standard input and output. failed: a read or a write did, which was said.
+#[derive(Drop)]
+pub struct Streams<R> {
+    pub rt: R,
+    pub failed: bool,
 }
 
-pub fn say_cut() {
-    io::write_all(
-        STDERR_FILENO,
-        b"many: the input ends inside a trace or its length\n",
-    );
+// One read. How many bytes came: none where the input ends, or where the read fails, which it says.
+pub fn read_some<R: Input + Eprint>(streams: &mut Streams<R>, room: &mut [u8]) -> usize
+    ensures { result ≤ length room.new }
+{
+    match streams.rt.reader().read(room) {
+        Ok(got) => got,
+        Err(e) => {
+            streams.failed = true;
+            let _ = eprintln!(streams.rt; "many: standard input: {e}");
+            0
+        }
+    }
+}
+
+pub fn say_cut(rt: &impl Eprint) {
+    let _ = eprintln!(rt; "many: the input ends inside a trace or its length");
 }
 
 // The bytes from `from` on. Whether all of them came.
-fn fill(room: &mut [u8], from: usize) -> bool
+fn fill<R: Input + Eprint>(streams: &mut Streams<R>, room: &mut [u8], from: usize) -> bool
     requires { from ≤ length room.old }
 {
     let mut have = from;
     while have < room.len() {
-        let more = read_some(&mut room[have..]);
+        let more = read_some(streams, &mut room[have..]);
         if more == 0 {
-            say_cut();
+            say_cut(&streams.rt);
             return false;
         }
         have += more;
@@ -57,13 +63,13 @@ pub enum Length {
 }
 
 // The next trace's length; none where the input ends, before it or in it.
-pub fn length_of_next() -> Length {
+pub fn length_of_next<R: Input + Eprint>(streams: &mut Streams<R>) -> Length {
     let mut head = [0u8; 4];
-    let first = read_some(&mut head);
+    let first = read_some(streams, &mut head);
     if first == 0 {
         return Length::None;
     }
-    if fill(&mut head, first) {
+    if fill(streams, &mut head, first) {
         return Length::Of(big_endian(&head));
     }
     Length::None

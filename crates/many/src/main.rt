@@ -8,7 +8,8 @@ mod traces;
 ghost use Rattle.std.specs.Prelude.{◌+◌, ◌≤◌, length};
 
 use chunks::Verdict;
-use libc::STDOUT_FILENO;
+use input::Streams;
+use std::process::ExitCode;
 use traces::Next;
 
 // The first `wrote` bytes of the lent room are lines that are still to be printed. Not going: the input has ended, or a read or a write failed.
@@ -19,18 +20,26 @@ struct Batch {
 }
 
 // The first bytes of `out`, to standard output. Whether all were written.
-fn put(out: &[u8], size: usize) -> bool
+fn put<R: Print + Eprint>(streams: &mut Streams<R>, out: &[u8], size: usize) -> bool
     requires { size ≤ length out.now }
 {
-    if io::write_all(STDOUT_FILENO, &out[..size]) {
-        return true;
+    match streams.rt.write_all(&out[..size]) {
+        Ok(()) => true,
+        Err(e) => {
+            streams.failed = true;
+            let _ = eprintln!(streams.rt; "many: standard output: {e}");
+            false
+        }
     }
-    os::fail(b"many: standard output");
-    false
 }
 
 // The verdict's line behind the others. They are printed once there is not room for any line.
-fn tell(out: &mut [u8], wrote: usize, verdict: Verdict) -> Batch
+fn tell<R: Print + Eprint>(
+    streams: &mut Streams<R>,
+    out: &mut [u8],
+    wrote: usize,
+    verdict: Verdict,
+) -> Batch
     requires { wrote + 64 ≤ length out.old }
     ensures { result.wrote + 64 ≤ length out.new }
 {
@@ -42,19 +51,24 @@ fn tell(out: &mut [u8], wrote: usize, verdict: Verdict) -> Batch
         };
     }
     Batch {
-        going: put(out, end),
+        going: put(streams, out, end),
         wrote: 0,
     }
 }
 
 // One trace.
-fn turn(buf: &mut [u8], out: &mut [u8], wrote: usize) -> Batch
+fn turn<R: Input + Print + Eprint>(
+    streams: &mut Streams<R>,
+    buf: &mut [u8],
+    out: &mut [u8],
+    wrote: usize,
+) -> Batch
     requires { (11 ≤ length buf.old) × (wrote + 64 ≤ length out.old) }
     ensures { result.wrote + 64 ≤ length out.new }
 {
-    let next = traces::judge_next(buf);
+    let next = traces::judge_next(streams, buf);
     match next {
-        Next::Judged(verdict) => tell(out, wrote, verdict),
+        Next::Judged(verdict) => tell(streams, out, wrote, verdict),
         Next::None => Batch {
             going: false,
             wrote: wrote,
@@ -62,7 +76,11 @@ fn turn(buf: &mut [u8], out: &mut [u8], wrote: usize) -> Batch
     }
 }
 
-fn main() {
+fn main(rt: HostRuntime) -> ExitCode {
+    let mut streams = Streams {
+        rt: rt,
+        failed: false,
+    };
     let mut buf = io::large_buffer();
     let mut out = io::large_buffer();
     let mut at = Batch {
@@ -73,10 +91,15 @@ fn main() {
     let mut left = u64::MAX;
     while left > 0 {
         left -= 1;
-        at = turn(&mut buf, &mut out, at.wrote);
+        at = turn(&mut streams, &mut buf, &mut out, at.wrote);
         if !at.going {
-            put(&out, at.wrote);
-            return;
+            put(&mut streams, &out, at.wrote);
+            break;
         }
+    }
+    if streams.failed {
+        ExitCode::FAILURE
+    } else {
+        ExitCode::SUCCESS
     }
 }

@@ -2,7 +2,7 @@
 ghost use Rattle.std.specs.Prelude.{◌-◌, ◌≤◌, ◌<◌, ◌≡◌, length};
 
 use crate::input;
-use crate::input::Length;
+use crate::input::{Length, Streams};
 use chunks::{State, Verdict, What};
 
 // The next trace's verdict; none where the input ends.
@@ -34,10 +34,10 @@ fn gone_on(what: What, state: State, have: usize, left: usize) -> Half
     }
 }
 
-fn cut_off(at: Half) -> Half
+fn cut_off(rt: &impl Eprint, at: Half) -> Half
     ensures { (result.have ≡ 0) × (result.left ≡ 0) }
 {
-    input::say_cut();
+    input::say_cut(rt);
     let what = at.what;
     let state = at.state;
     Half {
@@ -104,15 +104,15 @@ fn judge_on(at: Half, buf: &mut [u8], have: usize, left: usize) -> Half
 }
 
 // One read, and what it makes of the trace.
-fn turn(at: Half, buf: &mut [u8]) -> Half
+fn turn<R: Input + Eprint>(streams: &mut Streams<R>, at: Half, buf: &mut [u8]) -> Half
     requires { (at.have < length buf.old) × (11 ≤ length buf.old) × (0 < at.left) }
     ensures { (result.have < length buf.new) × (result.left < at.left) }
 {
     let have = at.have;
     let end = have + least(at.left, buf.len() - have);
-    let got = input::read_some(&mut buf[have..end]);
+    let got = input::read_some(streams, &mut buf[have..end]);
     if got == 0 {
-        return cut_off(at);
+        return cut_off(&streams.rt, at);
     }
     judge_on(at, buf, have + got, at.left - got)
 }
@@ -130,12 +130,12 @@ fn verdict_of(at: Half, buf: &[u8]) -> Verdict
     }
 }
 
-fn judge_one(buf: &mut [u8], size: usize) -> Next
+fn judge_one<R: Input + Eprint>(streams: &mut Streams<R>, buf: &mut [u8], size: usize) -> Next
     requires { 11 ≤ length buf.old }
 {
     let mut at = gone_on(What::More, chunks::start(), 0, size);
     while at.left > 0 {
-        at = turn(at, buf);
+        at = turn(streams, at, buf);
     }
     if at.cut {
         return Next::None;
@@ -143,12 +143,12 @@ fn judge_one(buf: &mut [u8], size: usize) -> Next
     Next::Judged(verdict_of(at, buf))
 }
 
-pub fn judge_next(buf: &mut [u8]) -> Next
+pub fn judge_next<R: Input + Eprint>(streams: &mut Streams<R>, buf: &mut [u8]) -> Next
     requires { 11 ≤ length buf.old }
 {
-    let length = input::length_of_next();
+    let length = input::length_of_next(streams);
     match length {
-        Length::Of(size) => judge_one(buf, size),
+        Length::Of(size) => judge_one(streams, buf, size),
         Length::None => Next::None,
     }
 }

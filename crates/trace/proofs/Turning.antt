@@ -20,7 +20,7 @@ use Rattle.chunks.proofs.Walks.{Walk, stops_full, stops_more, stops_over, takes,
 use Rattle.judge.proofs.Chunks.{Run, begin, bytes, call}
 use Rattle.judge.proofs.Streams.{chunks_end, chunks_over, chunks_end_lines, chunks_over_lines, waits}
 use Rattle.trace.specs.declared.turns.Next.{Next}
-use Rattle.trace.specs.declared.turns.Next.TheVariants.{Read, Judge, Tell, Done, Failed}
+use Rattle.trace.specs.declared.turns.Next.TheVariants.{Read, Judge, Tell, Done}
 use Rattle.trace.specs.declared.turns.Turn.{Turn}
 use Rattle.trace.specs.Calls.{next_of, CalledAs, first_turn, ReadAs, came, none, fails, gone_to}
 use Rattle.trace.specs.Standing.{printed, Prints, StandsTo, Stands, Turned, Went, begins, turns, Fits}
@@ -71,7 +71,7 @@ printed_is w e = rw e at (went_stands w)
 
 -- ---- what a turn promises
 abbrev Goes : (q : Bool) → (at : Turn) → (buf : List ℕ) → (r : Turn) → (after room : List ℕ) → Type 0
-Goes q at buf r after room = Fits r (length after) × ((r.wrote ≤ length room) × Turned q at buf r after room)
+Goes q at buf r after room = record { fits : Fits r (length after); wrote : r.wrote ≤ length room; stands : Turned q at buf r after room }
 
 -- where nothing was read
 none_read : (n : ℕ) (seen xs : List ℕ) → length xs ≤ n → seen ++ drop n xs ≡ seen
@@ -91,17 +91,15 @@ module _ (q : Bool) (at : Turn) (buf : List ℕ) (h : at.have ≤ length buf) wh
     call_stands run (Over v) e = rw (p.ended, put_is _ p) (over_prints q room run v e)
 
     pub call_goes : at.next ≡ Judge → 11 ≤ length buf → length after ≡ length buf → Goes q at buf r after new
-    call_goes e l k = (
-      rw k (call_fits q room at.state rest p (length buf) (omega (arith, length-take-le at.have buf h)) l),
-      (
-        wrote_fits _ p,
-        λ seen text s.
-            let run : Run q at.state seen text rest = rw e at s in
-            let l = length-drop (heard_of q room at.state rest).used rest in
-            let g = none_read at.have seen (take r.have after) (rw p.rest (omega (arith, l, length-take-le at.have buf h))) in
-            rw (g, p.next) (call_stands run (heard_of q room at.state rest).what refl),
-      ),
-    )
+    call_goes e l k = record {
+      fits = rw k (call_fits q room at.state rest p (length buf) (omega (arith, length-take-le at.have buf h)) l);
+      wrote = wrote_fits _ p;
+      stands = λ seen text s.
+          let run : Run q at.state seen text rest = rw e at s in
+          let l = length-drop (heard_of q room at.state rest).used rest in
+          let g = none_read at.have seen (take r.have after) (rw p.rest (omega (arith, l, length-take-le at.have buf h))) in
+          rw (g, p.next) (call_stands run (heard_of q room at.state rest).what refl);
+    }
 
   -- ---- a read
   module _ (room : List ℕ) {after : List ℕ} where
@@ -114,13 +112,11 @@ module _ (q : Bool) (at : Turn) (buf : List ℕ) (h : at.have ≤ length buf) wh
     read_stands (fails e) run w = tt
 
     pub read_goes : {r : Turn} → at.next ≡ Read → ReadAs at.state rest after r → Goes q at buf r after room
-    read_goes e p = (
-      read_fits p,
-      (
-        rw (read_silent p) (omega arith),
-        λ seen text s. let t : Run q at.state seen text rest × ((took_of at.state rest).how ≡ Wait) = rw e at s in read_stands p t.0 t.1,
-      ),
-    )
+    read_goes e p = record {
+      fits = read_fits p;
+      wrote = rw (read_silent p) (omega arith);
+      stands = λ seen text s. let t : Run q at.state seen text rest × ((took_of at.state rest).how ≡ Wait) = rw e at s in read_stands p t.0 t.1;
+    }
 
   -- ---- the bytes and the state stay
   module _ (room : List ℕ) where
@@ -129,19 +125,15 @@ module _ (q : Bool) (at : Turn) (buf : List ℕ) (h : at.have ≤ length buf) wh
 
     pub told_goes : {r : Turn} (v : Verdict) → at.next ≡ Tell v →
         (r ≡ gone_to at Done (length (verdict_line (verdict_of v)))) × (take r.wrote room ≡ verdict_line (verdict_of v)) → Goes q at buf r buf room
-    told_goes v e (d, t) = (
-      rw d (h, (λ x. let z : ◌≡◌ {A = ℕ} 0 1 = cc in absurd (omega arith))),
-      (
-        there (verdict_line (verdict_of v)) room (ap (λ (x : Turn). x.wrote) d) t,
-        λ seen text s. let s' : Prints q at.ended seen (text ++ verdict_line (verdict_of v)) = rw e at s in rw (t, d, same_seen seen) s',
-      ),
-    )
+    told_goes v e (d, t) = record {
+      fits = rw d (h, (λ x. let z : ◌≡◌ {A = ℕ} 0 1 = cc in absurd (omega arith)));
+      wrote = there (verdict_line (verdict_of v)) room (ap (λ (x : Turn). x.wrote) d) t;
+      stands = λ seen text s. let s' : Prints q at.ended seen (text ++ verdict_line (verdict_of v)) = rw e at s in rw (t, d, same_seen seen) s';
+    }
 
     pub still_goes : {r : Turn} (n : Next) → at.next ≡ n → Fits at (length buf) → r ≡ gone_to at n 0 → Goes q at buf r buf room
-    still_goes n e f d = (
-      rw (d, ← e) f,
-      (
-        rw d (omega arith),
-        λ seen text s. rw (d, same_seen seen, append-nil text, ← e) s,
-      ),
-    )
+    still_goes n e f d = record {
+      fits = rw (d, ← e) f;
+      wrote = rw d (omega arith);
+      stands = λ seen text s. rw (d, same_seen seen, append-nil text, ← e) s;
+    }

@@ -1,5 +1,5 @@
 -- What is true of the program between two turns.
-use Rattle.std.specs.Prelude.{ℕ, ◌≤◌, ◌<◌, ◌≡◌, Bool, true, false, List, [], ◌++◌, length, take, drop}
+use Rattle.std.specs.Prelude.{ℕ, ◌≤◌, ◌<◌, ◌≡◌, Bool, true, false, List, [], ◌++◌, take, drop}
 use Rattle.rules.specs.File.{judge_file}
 use Rattle.rules.specs.Lines.{verdict_line, lines_of}
 use Rattle.chunks.specs.declared.State.{State}

@@ -7,7 +7,7 @@ ghost use Rattle.trace.specs.Calls as calls;
 ghost use Rattle.trace.specs.Standing.{Turned, Fits};
 
 use chunks::{State, Verdict, What};
-use libc::STDIN_FILENO;
+use std::io::Read;
 
 // What the next turn does: it reads, or has the judge go on, or tells the verdict; or there is none, since that was told or a read failed.
 #[derive(Clone, Copy)]
@@ -105,22 +105,22 @@ fn judge_some(state: State, buf: &mut [u8], have: usize, out: &mut [u8], quiet: 
 }
 
 // One read, behind the bytes that are left over.
-fn read_some(state: State, buf: &mut [u8], have: usize) -> Turn
+fn read_some(rt: &(impl Input + Eprint), state: State, buf: &mut [u8], have: usize) -> Turn
     requires { have < length buf.old }
     ensures { calls.ReadAs state (take have buf.old) buf.new result }
 {
     let room = &mut buf[have..];
-    let got = libc::read(STDIN_FILENO, room);
-    if got < 0 {
-        os::fail(b"trace: standard input");
-        return silent(Next::Failed, false, state, have);
+    match rt.reader().read(room) {
+        Ok(0) => {
+            let verdict = chunks::finish(state, &buf[..have]);
+            silent(Next::Tell(verdict), true, state, have)
+        }
+        Ok(more) => silent(Next::Judge, false, state, have + more),
+        Err(e) => {
+            let _ = eprintln!(rt; "trace: standard input: {e}");
+            silent(Next::Failed, false, state, have)
+        }
     }
-    let more = io::count(got, room);
-    if more == 0 {
-        let verdict = chunks::finish(state, &buf[..have]);
-        return silent(Next::Tell(verdict), true, state, have);
-    }
-    silent(Next::Judge, false, state, have + more)
 }
 
 // The verdict's line.
@@ -134,7 +134,13 @@ fn tell(at: Turn, out: &mut [u8], verdict: Verdict) -> Turn
 }
 
 // `stands` says what is true after it of all that was read and printed so far.
-pub fn one_turn(at: Turn, buf: &mut [u8], out: &mut [u8], quiet: bool) -> Turn
+pub fn one_turn(
+    rt: &(impl Input + Eprint),
+    at: Turn,
+    buf: &mut [u8],
+    out: &mut [u8],
+    quiet: bool,
+) -> Turn
     requires fits_2 { Fits at (length buf.old) }
     requires in_bounds { (11 ≤ length buf.old) × (64 ≤ length out.old) }
     ensures fits { Fits result (length buf.new) }
@@ -144,7 +150,7 @@ pub fn one_turn(at: Turn, buf: &mut [u8], out: &mut [u8], quiet: bool) -> Turn
     let next = at.next;
     let state = at.state;
     match next {
-        Next::Read => read_some(state, buf, at.have),
+        Next::Read => read_some(rt, state, buf, at.have),
         Next::Judge => judge_some(state, buf, at.have, out, quiet),
         Next::Tell(verdict) => tell(at, out, verdict),
         Next::Done => gone_to(at, Next::Done, 0),

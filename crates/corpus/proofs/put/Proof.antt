@@ -1,9 +1,0 @@
-use Rattle.std.proofs.Common.{sym, arith, length-take-le, rules}
-use Rattle.corpus.proofs.put.Statement.{statement}
-use Rattle.corpus.proofs.put.Tie as tie
-
-slice-aggregate-write-all : tie.Need-slice-aggregate-write-all
-slice-aggregate-write-all c = sym (length-take-le _ _ (omega arith))
-
-pub put_spec : {M : Type 1} → statement M
-put_spec = tie.close (tie.spec slice-aggregate-write-all (λ c κs. search rules) (λ c. search rules) (λ c. search rules))
