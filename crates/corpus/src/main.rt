@@ -139,9 +139,16 @@ fn read_full(file: &mut impl Read, room: &mut [u8]) -> std::io::Result<usize>
     Ok(have)
 }
 
-fn judge_file(rt: &(impl Files + Print), path: &str, cut: bool) -> Result<()> {
+// A file that cannot be opened is named, and passed over.
+fn judge_file(rt: &(impl Files + Print + Eprint), path: &str, cut: bool) -> Result<()> {
     let mut buf = io::large_buffer();
-    let mut file = fs::open(rt, path).context(path)?;
+    let mut file = match fs::open(rt, path) {
+        Ok(file) => file,
+        Err(e) => {
+            eprintln!(rt; "{path}: {e}").context("standard error")?;
+            return Ok(());
+        }
+    };
     let size = read_full(&mut file, &mut buf).context(path)?;
     rt.println(path).context("standard output")?;
     if cut {
@@ -152,14 +159,14 @@ fn judge_file(rt: &(impl Files + Print), path: &str, cut: bool) -> Result<()> {
     }
 }
 
-// A path, or the word behind which the cuts are judged. Whether they are from here on.
-fn argument(rt: &(impl Env + Files + Print), i: usize, cut: bool) -> Result<bool> {
+// A path, or the word behind which the cuts are judged. Whether they are from here on. What is too long for a path, or no text, is a file that cannot be opened.
+fn argument(rt: &(impl Env + Files + Print + Eprint), i: usize, cut: bool) -> Result<bool> {
     let mut word = io::buffer();
-    let size = rt.arg(i, &mut word).ok().context("a path is too long")?;
+    let size = rt.arg(i, &mut word).unwrap_or(0);
     if check::same(&word[..size], b"--cuts") {
         return Ok(true);
     }
-    judge_file(rt, str::from_utf8(&word[..size])?, cut)?;
+    judge_file(rt, str::from_utf8(&word[..size]).unwrap_or(""), cut)?;
     Ok(cut)
 }
 
