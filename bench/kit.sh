@@ -2,7 +2,7 @@
 root=$(dirname "$here")
 . "$root/share/program.sh"
 
-# rattle NAME: the other judge is this repository's program NAME. Both judges run alike: native on x86-64, elsewhere both under the kit's emulator.
+# rattle NAME: the other judge is this repository's program NAME. Both judges run alike: native on x86-64, elsewhere both under `qemu-x86_64`.
 rattle() {
     find_kit
     if [ -n "$emulator" ]; then

@@ -12,7 +12,7 @@ trouble() {
 # Sets what a program runs by: it is for x86-64, and the kit has the C library that it is linked with. `emulator` is empty where it runs native.
 find_kit() {
     rt=$(command -v rt) || trouble 'rt, of the Rattle kit, is not on the path'
-    kit=${RATTLE_HOME:-$(dirname "$(dirname "$(readlink -f "$rt")")")}
+    kit=$(dirname "$(dirname "$(readlink -f "$rt")")")
     tools=$kit/toolchain
     loader=$tools/lib/ld-linux-x86-64.so.2
     [ -x "$loader" ] || trouble "the kit has no loader for its programs ($loader)"
@@ -30,12 +30,12 @@ ready() {
 
 # One number for all that a proof may depend on, by its contents: times do not tell of a file that is removed, or put back.
 sources() {
-    list=$(cd "$root" && uname -m && find crates.txt crates "$kit/KIT-ID" -name out -prune -o -type f -exec sha256sum {} +) &&
+    list=$(cd "$root" && uname -m && find crates.txt crates "$kit/KIT-ID" \( -path 'crates/*/out' ! -path 'crates/*/*/out' \) -prune -o -type f -exec sha256sum {} +) &&
         printf '%s\n' "$list" | LC_ALL=C sort | sha256sum | cut -d ' ' -f 1
 }
 
 # Proves NAME, of which rt's own stamps say what there is to do, and keeps its program under the number of the sources, where no later check reaches it. rt runs
-# what it has built: on no input, and what that prints is dropped.
+# what it has built: on no input, and what that prints is dropped. A gate in this checkout builds the same file: not both at once.
 prove() {
     flock -n 9 || { say 'another call is proving; waiting for it' && flock 9; } || return
     [ ! -x "$program" ] || return 0

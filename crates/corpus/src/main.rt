@@ -145,7 +145,7 @@ fn judge_file(rt: &(impl Files + Print + Eprint), path: &str, cut: bool) -> Resu
     let mut file = match fs::open(rt, path) {
         Ok(file) => file,
         Err(e) => {
-            eprintln!(rt; "{path}: {e}").context("standard error")?;
+            let _ = eprintln!(rt; "{path}: {e}");
             return Ok(());
         }
     };
