@@ -33,6 +33,7 @@ pub fn paid(ledgers: Ledgers, answer: Answer) -> Paid
     }
 }
 
+#[tactic(auto, unfolding(ledger::specs::Values::refusal_of, ledger::specs::Values::is_none))]
 fn done(answer: Answer) -> bool
     ensures { result ≡ is_none (refusal_of answer) }
 {
@@ -142,6 +143,7 @@ pub fn moved(ledgers: Ledgers, pace: Pace, card: Card, to: u32) -> Paid
 }
 
 // On a part whose own entry it is not it does nothing.
+#[tactic(auto, unfolding(crate::specs::Both::effect_for, rules::specs::Lent::no_effect, ledger::specs::Values::effect_of, pins::specs::Values::moved_of))]
 fn effect_on(own: bool, effect: Effect) -> Effect
     ensures { effect_of result ≡ effect_for own (effect_of effect) }
 {

@@ -23,7 +23,7 @@ use Rattle.ledger.specs.Values.{ledger_of, pace_of, stored, level_in, code_of, p
 use Rattle.ledger.specs.contracts.calls.moved as moved
 use Rattle.ledger.specs.contracts.calls.entered as entered
 use Rattle.ledger.specs.contracts.calls.deadline as deadline
-use Rattle.ledger.specs.contracts.moving.number_of as number_of_lem
+use Rattle.ledger.specs.contracts.moving.number_of as number_of
 use Rattle.ledger.specs.contracts.pacing.first_pace as first_pace
 use Rattle.ledger.specs.contracts.pacing.respaced as respaced
 use Rattle.ledger.specs.contracts.move_on as move_on
@@ -87,11 +87,11 @@ deadline_says w = deadline.clauses w.𝓛 w.𝓜.mem w.𝓡.run
 pub deadline_determined : Determined deadline.ended deadline_says
 deadline_determined = determined deadline.ended deadline_says (λ κs a r e. fact_of _) (λ κs a r r' ws ws' p p'. (p ∙ sym p', refl))
 
-abbrev number_of_says : Promise number_of_lem.ended
-number_of_says w = number_of_lem.clauses w.𝓛 w.𝓜.mem w.𝓡.run
+abbrev number_of_says : Promise number_of.ended
+number_of_says w = number_of.clauses w.𝓛 w.𝓜.mem w.𝓡.run
 
-pub number_of_determined : Determined number_of_lem.ended number_of_says
-number_of_determined = determined number_of_lem.ended number_of_says (λ κs a r e. fact_of _) (λ κs a r r' ws ws' p p'. (p ∙ sym p', refl))
+pub number_of_determined : Determined number_of.ended number_of_says
+number_of_determined = determined number_of.ended number_of_says (λ κs a r e. fact_of _) (λ κs a r r' ws ws' p p'. (p ∙ sym p', refl))
 
 abbrev first_pace_says : Promise first_pace.ended
 first_pace_says w = first_pace.clauses w.𝓛 w.𝓜.mem w.𝓡.run

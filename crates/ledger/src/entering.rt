@@ -8,6 +8,7 @@ ghost use Rattle.ledger.specs.Parts.{beat_as, Spaced, ReachArgs, changed_by, acc
 use crate::account::Beat;
 use crate::{After, Answer, Effect, Ledger, moving};
 
+#[tactic(auto, unfolding(crate::specs::Values::refusal_of, crate::specs::Values::is_none))]
 fn done(answer: Answer) -> bool
     ensures { result ≡ is_none (refusal_of answer) }
 {

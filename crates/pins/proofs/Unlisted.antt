@@ -35,12 +35,3 @@ unlisted PRE (Pre bank) h = absurd (h bank refl)
 unlisted PREA Prea h = absurd (h refl)
 unlisted RESERVED Nop h = refl
 unlisted k x h = refl
-
-pub no_nop : (x : Command) → (x ≡ Nop → ⊥) → is NOP (command_of x) ≡ false
-no_nop = unlisted NOP
-
-pub no_refab : (x : Command) → (x ≡ Refab → ⊥) → is REFAB (command_of x) ≡ false
-no_refab = unlisted REFAB
-
-pub no_refpb : (x : Command) → (x ≡ Refpb → ⊥) → is REFPB (command_of x) ≡ false
-no_refpb = unlisted REFPB

@@ -6,6 +6,7 @@ ghost use Rattle.pins.specs.Values.{level_of, read_of, whose_of, ReadAs};
 
 use crate::{Level, Read, Whose};
 
+#[tactic(auto, unfolding(rules::specs::Levels::sense_at, crate::specs::Values::level_of, crate::specs::Values::read_of))]
 fn sense_at(level: Level, mr4: u8) -> Read
     ensures { read_of result ≡ rules.sense_at (level_of level) mr4 }
 {

@@ -8,6 +8,7 @@ ghost use Rattle.pins.specs.Values.{command_of, decoded_of, level_of, moved_of, 
 
 use crate::{Command, Decoded, Level, Move, Read, pairs, reader};
 
+#[tactic(auto, unfolding(rules::specs::Levels::depth, crate::specs::Values::level_of))]
 fn depth(level: Level) -> u8
     ensures { result ≡ rules.depth (level_of level) }
 {
@@ -31,6 +32,7 @@ pub fn is_awake(level: Level) -> bool
     same_level(Level::Awake, level)
 }
 
+#[tactic(auto, unfolding(rules::specs::Levels::rises_from, crate::specs::Values::moved_of))]
 pub fn rises_from(level: Level, moved: Move) -> bool
     ensures { result ≡ rules.rises_from (level_of level) (moved_of moved) }
 {
@@ -41,6 +43,7 @@ pub fn rises_from(level: Level, moved: Move) -> bool
     }
 }
 
+#[tactic(auto, unfolding(rules::specs::Levels::level_after, crate::specs::Values::level_of, crate::specs::Values::moved_of))]
 pub fn level_after(moved: Move, level: Level) -> Level
     ensures { level_of result ≡ rules.level_after (moved_of moved) (level_of level) }
 {
@@ -140,6 +143,7 @@ pub fn read_pins(sleeps: bool, paired: bool, level: Level, pins: u32) -> Read
 }
 
 // Pins that are no command are taken for NOP.
+#[tactic(auto, unfolding(crate::specs::Values::command_of, crate::specs::Values::decoded_of, rules::specs::Entries::command_of))]
 fn command_in(decoded: Decoded) -> Command
     ensures { command_of result ≡ entries.command_of (decoded_of decoded) }
 {
@@ -151,6 +155,7 @@ fn command_in(decoded: Decoded) -> Command
 }
 
 // The command that the entry leaves in the record: a move, an entry asleep and a temperature are NOP.
+#[tactic(auto, unfolding(rules::specs::Entries::recorded_as, crate::specs::Values::command_of, crate::specs::Values::read_of))]
 pub fn recorded(read: Read) -> Command
     ensures { command_of result ≡ entries.recorded_as (read_of read) }
 {
@@ -164,6 +169,7 @@ pub fn recorded(read: Read) -> Command
     }
 }
 
+#[tactic(auto, unfolding(rules::specs::Entries::falls_as, crate::specs::Values::command_of, crate::specs::Values::level_of))]
 fn falls_as(level: Level) -> Command
     ensures { command_of result ≡ entries.falls_as (level_of level) }
 {
@@ -175,6 +181,7 @@ fn falls_as(level: Level) -> Command
     }
 }
 
+#[tactic(auto, unfolding(rules::specs::Entries::moves_as, crate::specs::Values::command_of, crate::specs::Values::moved_of))]
 fn moves_as(moved: Move) -> Command
     ensures { command_of result ≡ entries.moves_as (moved_of moved) }
 {
@@ -186,6 +193,7 @@ fn moves_as(moved: Move) -> Command
 }
 
 // The command that bank states and delays are asked of: the entries into self-refresh and deep power-down are REFab.
+#[tactic(auto, unfolding(rules::specs::Entries::judged_as, crate::specs::Values::command_of, crate::specs::Values::read_of))]
 pub fn judged(read: Read) -> Command
     ensures { command_of result ≡ entries.judged_as (read_of read) }
 {
@@ -199,6 +207,7 @@ pub fn judged(read: Read) -> Command
     }
 }
 
+#[tactic(auto, unfolding(rules::specs::Entries::move_of, crate::specs::Values::moved_of, crate::specs::Values::read_of))]
 pub fn move_of(read: Read) -> Move
     ensures { moved_of result ≡ entries.move_of (read_of read) }
 {

@@ -6,6 +6,7 @@ ghost use Rattle.pins.specs.Values.{whose_of};
 use crate::Whose;
 
 // High is true.
+#[tactic(auto, unfolding(rules::specs::Whose::by_selects, crate::specs::Values::whose_of))]
 fn by_selects(first: bool, second: bool) -> Whose
     ensures { whose_of result ≡ rules.by_selects first second }
 {
@@ -31,6 +32,7 @@ pub fn whose_pins(paired: bool, pins: u32) -> Whose
 }
 
 // Among the own entries of the first part, or of the one part.
+#[tactic(auto, unfolding(rules::specs::Whose::is_of, crate::specs::Values::whose_of))]
 pub fn is_first(whose: Whose) -> bool
     ensures { result ≡ rules.is_of 0 (whose_of whose) }
 {
@@ -43,6 +45,7 @@ pub fn is_first(whose: Whose) -> bool
     }
 }
 
+#[tactic(auto, unfolding(rules::specs::Whose::is_of, crate::specs::Values::whose_of))]
 pub fn is_second(whose: Whose) -> bool
     ensures { result ≡ rules.is_of 1 (whose_of whose) }
 {

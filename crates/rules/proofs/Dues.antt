@@ -98,7 +98,7 @@ module _ (b : Beat) (h : 0 < b.span) where
   unfolding next_after fallen
   next_later n = omega (arith, lt-div-mul-add {a = n + I - u} h)
 
-  -- it on_beat, and none before it does
+  -- it is on the beat, and none before it does
   pub next_on_beat : (n : ℕ) → on_beat b (next_after b n) ≡ true
   unfolding on_beat next_after
   next_on_beat n =

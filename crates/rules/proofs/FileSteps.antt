@@ -29,7 +29,7 @@ pub data StepSays (fs : List Field) (past : Past) (at : ℕ) : List ℕ → Step
   stops : {bs : List ℕ} {v : FileVerdict} → Ends fs past at bs v → StepSays fs past at bs (ends v)
 
 data Kind (fs : List Field) (f : Field) : Type 0 where
-  of_card_lem : of_trace f.tag ≡ false → Kind fs f
+  of_a_card : of_trace f.tag ≡ false → Kind fs f
   of_an_entry : card_whole fs ≡ true → of_entry f.tag ≡ true → Kind fs f
   of_end : card_whole fs ≡ true → f.tag ≡ 33 → Kind fs f
 
@@ -51,7 +51,7 @@ kind {b} fs f r h = by (of_entry f.tag) refl
     by true p = of_an_entry (behind (entry_high f.tag p)) p
     by false p = ⊎_elim
         (λ (q : (f.tag ≡ 33) × (eqb f.tag 33 ≡ true)). of_end (behind (omega (arith, q.0))) q.0)
-        (λ (q : (f.tag ≡ 33 → ⊥) × (eqb f.tag 33 ≡ false)). of_card_lem (rw (p, q.1)))
+        (λ (q : (f.tag ≡ 33 → ⊥) × (eqb f.tag 33 ≡ false)). of_a_card (rw (p, q.1)))
         (eq_cases f.tag 33)
 
 module _ (fs : List Field) (past : Past) (at : ℕ) where
@@ -108,7 +108,7 @@ module _ (fs : List Field) (past : Past) (at : ℕ) where
   step_says r bs = by_head_lem (head_says (begun past) fs bs)
     where
       by_kind : (f : Field) (rest : List ℕ) → RightForm (begun past) fs f → Kind fs f → StepSays fs past at (bytes_of f ++ rest) (by_head fs past at (whole f rest))
-      by_kind f rest h (of_card_lem w) = rw (card_step_lem f rest w) (card_says f rest h w)
+      by_kind f rest h (of_a_card w) = rw (card_step_lem f rest w) (card_says f rest h w)
       by_kind f rest h (of_an_entry w t) = rw (entry_step_lem f rest t) (entry_says f rest h w t)
       by_kind f rest h (of_end w t) = rw (end_step_lem f rest t) (end_says f rest h w t)
 

@@ -85,6 +85,7 @@ pub fn opening(rises: bool, told: ledger::Answer, stamp: u32) -> Answer
 }
 
 // What a ledger tells, as an answer of a step.
+#[tactic(auto, unfolding(crate::specs::Values::refusal_of, ledger::specs::Values::refusal_of))]
 pub fn as_told(told: ledger::Answer) -> Answer
     ensures { refusal_of result ≡ paid.refusal_of told }
 {

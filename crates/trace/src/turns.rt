@@ -141,7 +141,7 @@ pub fn one_turn(
     out: &mut [u8],
     quiet: bool,
 ) -> Turn
-    requires fits_2 { Fits at (length buf.old) }
+    requires fits_before { Fits at (length buf.old) }
     requires in_bounds { (11 ≤ length buf.old) × (64 ≤ length out.old) }
     ensures fits { Fits result (length buf.new) }
     ensures wrote { result.wrote ≤ length out.new }

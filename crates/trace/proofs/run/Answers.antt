@@ -9,7 +9,7 @@ loop-left-init g c =
 
 pub one_turn-at-requires : goal.one_turn-at-requires
 one_turn-at-requires g c =
-    let v = c.loop-left.invariant in record { fits_2 = rw v.0 v.2; in_bounds = (omega arith, omega arith) }
+    let v = c.loop-left.invariant in record { fits_before = rw v.0 v.2; in_bounds = (omega arith, omega arith) }
 
 pub loop-left-preserved : goal.loop-left-preserved
 loop-left-preserved g c =

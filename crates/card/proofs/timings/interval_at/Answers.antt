@@ -8,9 +8,9 @@ use Rattle.rules.specs.Heat.{interval_at}
 use Rattle.card.specs.Values.{card_of}
 use Rattle.card.proofs.timings.interval_at.Goals as goal
 
-by-quarters : (d k p : ℕ) → 250 * (d * k) / p ≡ femto d * k / (p * 4)
+by_quarters : (d k p : ℕ) → 250 * (d * k) / p ≡ femto d * k / (p * 4)
 unfolding femto
-by-quarters d k p =
+by_quarters d k p =
     let e : 1000 * d * k ≡ 250 * (d * k) * 4 = omega arith in
     let q : 250 * (d * k) * 4 / (p * 4) ≡ 250 * (d * k) / p = mul-div-mul_right (250 * (d * k)) p (omega arith) in
     rw (e, q)
@@ -20,4 +20,4 @@ unfolding interval_at card_of
 returns c =
     let card = c.args.card in
     c.greater.ensures
-    ∙ ap (max 1) (c.whole_periods.ensures ∙ rw (c.in_quarters-refi.ensures.0, c.quarters.ensures.0, c.picoseconds.ensures.0) (by-quarters card.trefi _ card.period.0))
+    ∙ ap (max 1) (c.whole_periods.ensures ∙ rw (c.in_quarters-refi.ensures.0, c.quarters.ensures.0, c.picoseconds.ensures.0) (by_quarters card.trefi _ card.period.0))
