@@ -493,46 +493,99 @@ def cases():
     return [(case, CARDS[line[0]] + line[1:] if line[0] in CARDS else line) for case, line in enumerate(calls, 1)]
 
 
-# ---- the calls, as the program has them: two words each
-PLACES = {"R": "GROUPS", "at": "LEDGER_AT", "number": "OWED", "four": "FOUR_COUNT", "mr4": "SENSED_MR4"}
-# an MR1 that is not there; the byte that stands there would be refused on a card, and is listed with either OP4
-NO_MR1 = "0x1C7"
+# ---- the calls, as the program has them
+def byte(value):
+    assert 0 <= value < 1 << 8, value
+    return str(value)
 
 
-def words_of(words, part, names):
-    """The first word's name and the second; `names` gathers the pins and the temperatures that are called by a name."""
+def half(value):
+    assert 0 <= value < 1 << 16, value
+    return str(value)
+
+
+def word(value):
+    assert 0 <= value < 1 << 32, value
+    return str(value)
+
+
+def long(value):
+    assert 0 <= value < 1 << 64, value
+    return str(value)
+
+
+def flag(value):
+    assert value in (0, 1), value
+    return ("false", "true")[value]
+
+
+def maybe(form):
+    return lambda value: "None" if value is None else "Some(%s)" % form(value)
+
+
+def level(value):
+    return "Level::" + ("Awake", "PowerDown", "SelfRefresh", "Deep")[value]
+
+
+# a place, as a case names it: as the program names it, and the form of its value
+PLACES = {
+    "period": ("Card(OnCard::Period(%s))", long), "starting-mr2": ("Card(OnCard::Mr2(%s))", byte), "R": ("Card(OnCard::Groups(%s))", half),
+    "tREFI": ("Card(OnCard::Trefi(%s))", word), "sleeps": ("Card(OnCard::Sleeps(%s))", flag), "starting-mr1": ("Card(OnCard::Mr1(%s))", maybe(byte)),
+    "paired": ("Card(OnCard::Paired(%s))", flag), "gap": ("Card(OnCard::Gap(%s))", byte), "raise": ("Card(OnCard::Raise(%s))", word),
+    "last": ("Last(%s)", maybe(word)), "next": ("Next(%s)", long), "mr4": ("SensedMr4(%s)", byte),
+    "mr2": ("Share(OnShare::Mode(OnModes::Mr2(%s)))", byte), "mr1": ("Share(OnShare::Mode(OnModes::Mr1(%s)))", maybe(byte)),
+    "counter": ("Share(OnShare::Counter(%s))", byte), "four": ("Share(OnShare::FourCount(%s))", byte),
+    "at": ("Share(OnShare::Ledger(OnLedger::At(%s)))", word), "number": ("Share(OnShare::Ledger(OnLedger::Owed(%s)))", lambda value: byte(value + 8)),
+    "since": ("Share(OnShare::Ledger(OnLedger::Since(%s)))", word), "skipped": ("Share(OnShare::Ledger(OnLedger::Skipped(%s)))", word),
+    "level": ("Share(OnShare::Ledger(OnLedger::Level(%s)))", level),
+}
+
+
+def place_of(name):
+    if name in PLACES:
+        return PLACES[name]
+    if name in TIMINGS:
+        return "Card(OnCard::Duration(Timing::%s, %%s))" % name.capitalize(), word
+    if name.endswith("floor"):
+        return "Card(OnCard::Floor(Timing::%s, %%s))" % name[:-5].capitalize(), byte
+    kind = "".join(part.capitalize() for part in name.split("-")[-2:] if part not in ("at", "mr1", "mr2"))
+    if name.startswith("at-"):
+        return "Share(OnShare::At(Latest::%s, %%s))" % kind, word
+    register, form = {"mr1": ("Mr1", maybe(byte)), "mr2": ("Mr2", byte)}[name.split("-")[1]]
+    return "Share(OnShare::Noted(Noting::%s, OnModes::%s(%%s)))" % (kind, register), form
+
+
+def put_of(name, text):
+    place, form = place_of(name)
+    return "Put(Place::%s)" % place % form(None if text == "none" else int(text, 0))
+
+
+def call_of(words, part, names):
+    """The call; `names` gathers the pins that are called by a name."""
     if words[0] == "put":
-        if words[1:] == ["last", "none"]:
-            return "NO_LAST", 0
-        place = PLACES.get(words[1], words[1].replace("floor", "_floor").replace("-", "_").upper())
-        return place, int(words[2].replace("none", NO_MR1), 0) + 8 * (words[1] == "number")
+        return put_of(words[1], words[2])
     if words[0] == "fresh":
-        return "FRESH", 0
+        return "Fresh"
     if words[0] in ("E", "move"):
-        return {"E": "END", "move": "MOVE"}[words[0]], int(words[1])
+        return "%s(%s)" % ({"E": "End", "move": "Move"}[words[0]], word(int(words[1])))
     if words[0] == "MR4":
-        names["MR4_%s" % words[1]] = 0x2000100 + int(words[1], 16)
-        return "MR4_%s" % words[1], int(words[-1])
+        return "Temperature(0x%s, %s)" % (words[1].lower(), word(int(words[-1])))
     if words[0] == "pins":
-        return "0x" + words[1].lower(), int(words[-1])
+        return "Entry(0x%s, %s)" % (words[1].lower(), word(int(words[-1])))
     name = "MRR" if words[:2] == ["MRR", "0"] else "_".join(words[:-2]).replace("-", "_")
     name += "" if part is None else "_PART_%d" % part
     names[name] = pins_of(words[:-2], part)
-    return name, int(words[-1])
+    return "Entry(%s, %s)" % (name, word(int(words[-1])))
 
 
 def rows_of(case, calls, names):
-    rows, lent = [("CASE", case)], 0
+    rows, lent = ["Case(%d)" % case], 0
     for call in calls:
         words, part = parted(call)
         if words[0] in ("put", "move") and lent != (part or 0):
             lent = part or 0
-            rows.append(("PART", lent))
-        if words[0] == "put" and words[1] in ("next", "period"):
-            place, value = words[1].upper(), int(words[2])
-            rows += [(place + "_HIGH", value >> 32), (place + "_LOW", value & 0xFFFFFFFF)]
-        else:
-            rows.append(words_of(words, part, names))
+            rows.append("Part(Part::%s)" % ("First", "Second")[lent])
+        rows.append(call_of(words, part, names))
     return rows
 
 
@@ -541,63 +594,17 @@ def table():
     for case, calls in cases():
         rows += rows_of(case, calls, names)
     consts = "".join("const %s: u32 = 0x%x;\n\n" % item for item in names.items())
-    words = ["    %s,\n    %d,\n" % row for row in rows]
-    half = len(rows) // 2
-    sizes = {"count": len(rows), "twice": 2 * len(rows), "half": 2 * half, "rest": 2 * (len(rows) - half)}
-    print(TABLE % {"consts": consts, "first": "".join(words[:half]), "second": "".join(words[half:]), **sizes}, end="")
+    print(TABLE % {"consts": consts, "count": len(rows), "calls": "".join("    Call::%s,\n" % row for row in rows)}, end="")
 
 
 TABLE = """\
-// The calls of all cases, two numbers each: what is called, and a stamp, a cycle or a value. Pins are an entry, and MR4 with a value is a temperature; a place of
-// the record is a value put there; CASE is the next case, a line of cases.txt, whose record starts fresh with the bench card; FRESH is a fresh record with the card that
-// stands there; PART is whose places and ledger those behind it are, the first part's before it.
-ghost use Rattle.std.specs.Prelude.{◌<◌};
+// The calls of all cases, one behind the other.
+use crate::calls::{Call, Latest, Noting, OnCard, OnLedger, OnModes, OnShare, Part, Place, Timing};
+use pins::Level;
 
-use crate::places::*;
-
-pub const CASE: u32 = 0x2000000;
-
-pub const END: u32 = 0x2000001;
-
-pub const MOVE: u32 = 0x2000002;
-
-pub const PART: u32 = 0x2000003;
-
-pub const FRESH: u32 = 0x2000004;
-
-pub const MR4: u32 = 0x2000100;
-
-// Pins: a command with its bank, or with MA and OP in hexadecimal, and of two parts with its part; a move of clock-enable. A temperature: with its value in
-// hexadecimal.
-%(consts)spub const COUNT: usize = %(count)d;
-
-// In two halves: one constant may not be so long.
-const FIRST: [u32; %(half)d] = [
-%(first)s];
-
-const SECOND: [u32; %(rest)d] = [
-%(second)s];
-
-fn word(i: usize) -> u32
-    requires { i < %(twice)d }
-{
-    if i < %(half)d {
-        return FIRST[i];
-    }
-    SECOND[i - %(half)d]
-}
-
-pub fn what_at(i: usize) -> u32
-    requires { i < %(count)d }
-{
-    word(2 * i)
-}
-
-pub fn cycle_at(i: usize) -> u32
-    requires { i < %(count)d }
-{
-    word(2 * i + 1)
-}
+// Pins: a command with its bank, or with MA and OP in hexadecimal, and of two parts with its part; a move of clock-enable.
+%(consts)spub static CALLS: [Call; %(count)d] = [
+%(calls)s];
 """
 
 

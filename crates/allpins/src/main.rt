@@ -5,49 +5,30 @@
 
 ghost use Rattle.std.specs.Prelude.{◌≤◌, ◌<◌};
 
-use pins::{Command, Decoded, Level, Read, Told, Whose, Wrote};
-
-// The standard output's descriptor.
-const STDOUT: i32 = 1;
+use pins::{Command, Level, Read, Undecoded, Unwritten, Whose};
+use std::io;
 
 fn mix(h: u64, x: u64) -> u64 {
     (h % 4294967296 * 1000003 + x % 4294967296) % 4294967296
 }
 
-fn mix_byte(h: u64, x: u8) -> u64 {
-    mix(h, x as u64)
-}
-
-fn mix_bytes(from: u64, bytes: &[u8; 12]) -> u64 {
-    let mut h = from;
-    let mut i = 0;
-    while i < 12 {
-        h = mix_byte(h, bytes[i]);
-        i += 1;
-    }
-    h
-}
-
 fn packed(kind: u64, small: u8, large: u16) -> u64
     requires { kind ≤ 15 }
 {
-    kind * 16777216 + (small as u64) * 65536 + (large as u64)
+    kind * 16777216 + u64::from(small) * 65536 + u64::from(large)
 }
 
 // Reads and writes with AP have numbers of their own.
 fn access(kind: u64, bank: u8, column: u16, ap: bool) -> u64
     requires { kind ≤ 7 }
 {
-    if ap {
-        return packed(kind + 5, bank, column);
-    }
-    packed(kind, bank, column)
+    packed(if ap { kind + 5 } else { kind }, bank, column)
 }
 
 fn numbers(command: Command) -> u64 {
     match command {
         Command::Nop => packed(0, 0, 0),
-        Command::Mrw { ma, op } => packed(1, ma, op as u16),
+        Command::Mrw { ma, op } => packed(1, ma, u16::from(op)),
         Command::Mrr { ma } => packed(2, ma, 0),
         Command::Refpb => packed(3, 0, 0),
         Command::Refab => packed(4, 0, 0),
@@ -59,26 +40,36 @@ fn numbers(command: Command) -> u64 {
     }
 }
 
-fn answer(wrote: Wrote) -> u64 {
+fn answer(wrote: Result<(), Unwritten>) -> u64 {
     match wrote {
-        Wrote::Done => 0,
-        Wrote::Unfit => 14,
-        Wrote::NoRoom => 15,
+        Ok(()) => 0,
+        Err(Unwritten::Unfit) => 14,
+        Err(Unwritten::NoRoom) => 15,
     }
 }
 
 // Writes at the start of a buffer of twelve bytes, of which the first few are lent.
-fn put(h: u64, paired: bool, told: Told, stamp: u32, room: usize, command: Command) -> u64
+fn put(h: u64, paired: bool, told: Option<u8>, stamp: u32, room: usize, command: Command) -> u64
     requires { room ≤ 12 }
 {
     let mut buffer = [165u8; 12];
     let wrote = pins::write_entry(paired, told, stamp, command, &mut buffer[..room]);
-    mix_bytes(mix(h, answer(wrote)), &buffer)
+    let mut digest = mix(h, answer(wrote));
+    for byte in buffer {
+        digest = mix(digest, u64::from(byte));
+    }
+    digest
 }
 
-fn again(h: u64, paired: bool, told: Told, pins: u32, decoded: Decoded) -> u64 {
+fn again(
+    h: u64,
+    paired: bool,
+    told: Option<u8>,
+    pins: u32,
+    decoded: Result<Command, Undecoded>,
+) -> u64 {
     match decoded {
-        Decoded::Good(command) => put(
+        Ok(command) => put(
             mix(h, numbers(command)),
             paired,
             told,
@@ -86,13 +77,13 @@ fn again(h: u64, paired: bool, told: Told, pins: u32, decoded: Decoded) -> u64 {
             12,
             command,
         ),
-        Decoded::WrongBits => mix(h, 6),
-        Decoded::Reserved => mix(h, 7),
+        Err(Undecoded::WrongBits) => mix(h, 6),
+        Err(Undecoded::Reserved) => mix(h, 7),
     }
 }
 
 fn decoded(h: u64, pins: u32) -> u64 {
-    again(h, false, Told::Nobody, pins, pins::decode(pins))
+    again(h, false, None, pins, pins::decode(pins))
 }
 
 fn place(whose: Whose) -> u64 {
@@ -105,14 +96,14 @@ fn place(whose: Whose) -> u64 {
     }
 }
 
-fn part(whose: Whose) -> Told {
+fn part(whose: Whose) -> Option<u8> {
     if pins::is_first(whose) {
-        return Told::Part(0);
+        Some(0)
+    } else if pins::is_second(whose) {
+        Some(1)
+    } else {
+        None
     }
-    if pins::is_second(whose) {
-        return Told::Part(1);
-    }
-    Told::Nobody
 }
 
 // In a trace of two parts, where no move of clock-enable comes.
@@ -124,6 +115,19 @@ fn shared(h: u64, pins: u32) -> u64 {
         Read::Clash => mix(of, 24),
         _ => of,
     }
+}
+
+// Every falling edge behind this rising one.
+fn patterns(rising: u32) -> u64
+    requires { rising < 1024 }
+{
+    let mut h = 0;
+    for falling in 0..1024u32 {
+        let ca = falling * 1024 + rising;
+        h = decoded(h, 0x200000 + ca);
+        h = shared(shared(h, 0x600000 + ca), 0x300000 + ca);
+    }
+    h
 }
 
 // The five bits above CA.
@@ -139,61 +143,46 @@ fn others(from: u64, rising: u32) -> u64
 }
 
 // Commands in and out of range, into 0 to 12 bytes of room.
-fn made(h: u64, paired: bool, told: Told, n: u32) -> u64
+fn made(from: u64, paired: bool, told: Option<u8>, n: u32) -> u64
     requires { n < 1024 }
 {
     let bank = (n % 16) as u8;
     let column = (n * 7) as u16;
     let byte = (n % 256) as u8;
-    let room = (n % 13) as usize;
     let ap = n % 3 == 0;
     let row = (n * 61) as u16;
     let op = (n / 4) as u8;
-    let act = put(h, paired, told, n, room, Command::Act { bank, row });
-    let rd = put(act, paired, told, n, room, Command::Rd { bank, column, ap });
-    let wr = put(rd, paired, told, n, room, Command::Wr { bank, column, ap });
-    let pre = put(wr, paired, told, n, room, Command::Pre { bank: byte });
-    let mrr = put(pre, paired, told, n, room, Command::Mrr { ma: byte });
-    let mrw = put(mrr, paired, told, n, room, Command::Mrw { ma: byte, op });
-    put(mrw, paired, told, n, room, Command::Nop)
+    let commands = [
+        Command::Act { bank, row },
+        Command::Rd { bank, column, ap },
+        Command::Wr { bank, column, ap },
+        Command::Pre { bank: byte },
+        Command::Mrr { ma: byte },
+        Command::Mrw { ma: byte, op },
+        Command::Nop,
+    ];
+    let mut h = from;
+    for command in commands {
+        h = put(h, paired, told, n, (n % 13) as usize, command);
+    }
+    h
 }
 
 // With no part, and with a part from 0 to 2, in a trace of one part and in one of two.
-fn all_made(h: u64, n: u32) -> u64
+fn all_made(from: u64, n: u32) -> u64
     requires { n < 1024 }
 {
-    let told = Told::Part((n % 3) as u8);
-    let one = made(made(h, false, Told::Nobody, n), false, told, n);
-    made(made(one, true, Told::Nobody, n), true, told, n)
+    let told = Some((n % 3) as u8);
+    let one = made(made(from, false, None, n), false, told, n);
+    made(made(one, true, None, n), true, told, n)
 }
 
-fn show(rising: usize, digest: u64)
-    requires { rising < 1024 }
-{
+fn main(rt: HostRuntime) -> io::Result<()> {
     let kinds = pins::kinds();
-    io::print_decimal(STDOUT, kinds[rising] as u64);
-    io::write_all(STDOUT, b" ");
-    io::print_decimal(STDOUT, digest);
-    io::write_all(STDOUT, b"\n");
-}
-
-// The next pattern of a rising edge; behind the last of its 1,024 the line.
-fn next(h: u64, rising: u32, falling: u32) -> u64
-    requires { (rising < 1024) × (falling < 1024) }
-{
-    let ca = falling * 1024 + rising;
-    let one = decoded(h, 0x200000 + ca);
-    let digest = shared(shared(one, 0x600000 + ca), 0x300000 + ca);
-    if falling < 1023 {
-        return digest;
+    for rising in 0..1024u32 {
+        let kind = kinds[rising as usize];
+        let digest = all_made(others(patterns(rising), rising), rising);
+        println!(rt; "{kind} {digest}")?;
     }
-    show(rising as usize, all_made(others(digest, rising), rising));
-    0
-}
-
-fn main() {
-    let mut h: u64 = 0;
-    for n in 0..1048576u32 {
-        h = next(h, n / 1024, n % 1024);
-    }
+    Ok(())
 }

@@ -1,20 +1,18 @@
 -- The end offered to a record goes by the ledgers that are moved on to it.
 use Prim.Native.Nat.{ℕ}
-use mathlib.Core.Path.{◌≡◌, refl, subst, ◌∙◌}
-use mathlib.Core.Bool.{Bool, true, false, cond, ◌&&◌}
-use mathlib.Core.Option.{Option, none, some}
-use lib.Dec.{leb, ltb}
-use borrow.Author.Tests.{ltb-true, ltb-false, le-leb, lt-leb}
+use mathlib.Core.Path.{◌≡◌, subst, ◌∙◌}
+use mathlib.Core.Bool.{true, false}
+use mathlib.Core.Option.{Option}
+use Rattle.std.specs.Prelude.{Err}
 use Rattle.rules.specs.Lists.{all}
 use Rattle.rules.specs.Whose.{parts}
 use Rattle.rules.specs.Folds.{or_else, first_of}
 use Rattle.rules.specs.Checks.{Refusal, unless}
 use Rattle.rules.specs.Lent.{Lent, has_part, lent_good, last_by, ledger_good, close_refusal, move_refusal, moved_on}
-use Rattle.rules.proofs.Tests.{both_true}
 use Rattle.rules.proofs.Filtered.{all_parts}
 use Rattle.rules.proofs.Sound.{ledger_good_lem}
 use Rattle.card.specs.Values.{card_of}
-use Rattle.ledger.specs.declared.Answer.TheVariants.{BadRecord, Earlier}
+use Rattle.ledger.specs.declared.Refusal.TheVariants.{BadRecord, Earlier}
 use Rattle.ledger.specs.Values.{ledger_of, pace_of, refusal_of, unless_refused}
 use Rattle.bank.specs.declared.Ledgers.{Ledgers}
 use Rattle.bank.specs.declared.Paid.{Paid}
@@ -34,37 +32,26 @@ unfolding close_refusal
 as_moved l end e f = told_moved l end ∙ rw (e, f, ledgers_good l e)
 
 module _ (r : Record) (end : ℕ) where
-  pub bad : lent_good (lent_of r) ≡ false → ClosedAs r end (paid_as (ledgers_in r) BadRecord)
+  pub bad : lent_good (lent_of r) ≡ false → ClosedAs r end (paid_as (ledgers_in r) (Err BadRecord))
   unfolding close_refusal first_of or_else unless refusal_of unless_refused
   bad e = record { told = rw e; first = rw e; second = rw e }
 
-  pub early : lent_good (lent_of r) ≡ true → (r.last.seen && ltb end r.last.at) ≡ true → ClosedAs r end (paid_as (ledgers_in r) Earlier)
-  unfolding lent_of last_by last_of close_refusal first_of or_else unless refusal_of unless_refused
-  early e f =
-      let p : (r.last.seen ≡ true) × (ltb end r.last.at ≡ true) = both_true r.last.seen (ltb end r.last.at) f in
-      let b : leb r.last.at end ≡ false = lt-leb r.last.at end (ltb-true end r.last.at p.1) in
-      record { told = rw (e, p.0, b); first = rw (e, p.0, b); second = rw (e, p.0, b) }
+  pub early : lent_good (lent_of r) ≡ true → last_by (last_of r.last) end ≡ false → ClosedAs r end (paid_as (ledgers_in r) (Err Earlier))
+  unfolding lent_of close_refusal first_of or_else unless refusal_of unless_refused
+  early e f = record { told = rw (e, f); first = rw (e, f); second = rw (e, f) }
 
-  by_end : (r.last.seen && ltb end r.last.at) ≡ false → last_by (lent_of r).last end ≡ true
-  unfolding lent_of last_by last_of
-  by_end e = go r.last.seen e
-    where
-      go : (b : Bool) → (b && ltb end r.last.at) ≡ false → last_by (cond b (some r.last.at) none) end ≡ true
-      go true f = le-leb r.last.at end (ltb-false end r.last.at f)
-      go false f = refl
-
-  told_so : lent_good (lent_of r) ≡ true → (r.last.seen && ltb end r.last.at) ≡ false →
+  told_so : lent_good (lent_of r) ≡ true → last_by (last_of r.last) end ≡ true →
       told_of r.card.paired (move_refusal (card_of r.card) (pace_of r.pace) (ledger_of r.first.ledger) end) (move_refusal (card_of r.card) (pace_of r.pace) (ledger_of r.second.ledger) end)
       ≡ close_refusal (lent_of r) end
   unfolding lent_of share_in share_of card_of
-  told_so e f = as_moved (lent_of r) end e (by_end f)
+  told_so e f = as_moved (lent_of r) end e f
 
   abbrev Moves : (old : Ledgers) → (o : Option Refusal) → Paid → Type 0
   Moves old o a =
       LeftBoth o old (moved_on (card_of r.card) (pace_of r.pace) (ledger_of old.first) end)
       (second_of r.card.paired old (moved_on (card_of r.card) (pace_of r.pace) (ledger_of old.second) end)) a
 
-  pub moved_on_lem : lent_good (lent_of r) ≡ true → (r.last.seen && ltb end r.last.at) ≡ false → (old : Ledgers) → old ≡ ledgers_in r → (a : Paid) →
+  pub moved_on_lem : lent_good (lent_of r) ≡ true → last_by (last_of r.last) end ≡ true → (old : Ledgers) → old ≡ ledgers_in r → (a : Paid) →
       PaidBy r.card.paired (move_refusal (card_of r.card) (pace_of r.pace) (ledger_of old.first) end)
       (move_refusal (card_of r.card) (pace_of r.pace) (ledger_of old.second) end)
       old (moved_on (card_of r.card) (pace_of r.pace) (ledger_of old.first) end) (moved_on (card_of r.card) (pace_of r.pace) (ledger_of old.second) end) a →

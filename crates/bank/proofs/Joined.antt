@@ -8,13 +8,12 @@ use lib.Dec.{ltb}
 use Rattle.rules.specs.Checks.{Refusal}
 use Rattle.rules.specs.Lent as lent
 use Rattle.rules.proofs.Tests.{some_none}
-use Rattle.ledger.specs.Values.{ledger_of, refusal_of, is_none, unless_refused, after_as, Left}
-use Rattle.ledger.specs.declared.Answer.{Answer}
+use Rattle.ledger.specs.Values.{ledger_of, refusal_of, unless_refused, after_as, Left}
 use Rattle.ledger.specs.declared.After.{After}
 use Rattle.ledger.proofs.Promises.{one_left}
 use Rattle.bank.specs.declared.Ledgers.{Ledgers}
 use Rattle.bank.specs.declared.Paid.{Paid}
-use Rattle.bank.specs.Both.{ledgers_as, paid_as, place_of, comes_before, sooner_of, told_of, second_of, LeftBoth, PaidBy, alone_as, JoinedAs}
+use Rattle.bank.specs.Both.{ledgers_as, place_of, comes_before, sooner_of, told_of, second_of, LeftBoth, PaidBy, alone_as, JoinedAs}
 
 -- none is told, where neither is
 sooner_none : (x y : Option Refusal) → sooner_of x y ≡ none → (x ≡ none) × (y ≡ none)
@@ -29,29 +28,6 @@ sooner_none (some x) (some y) e = go (ltb (place_of y) (place_of x)) e
     go false h = absurd (some_none (sym h))
 
 -- ---- the ledgers then
-kept_both : (o : Option Refusal) (old new : Ledgers) → is_none o ≡ false → old ≡ unless_refused o old new
-unfolding is_none unless_refused
-kept_both none old new e = let z : ◌≡◌ {A = ℕ} 0 1 = cc in absurd (omega arith)
-kept_both (some x) old new e = refl
-
-gone_both : (o : Option Refusal) (old new : Ledgers) → is_none o ≡ true → new ≡ unless_refused o old new
-unfolding is_none unless_refused
-gone_both none old new e = refl
-gone_both (some x) old new e = let z : ◌≡◌ {A = ℕ} 0 1 = cc in absurd (omega arith)
-
-module _ (old : Ledgers) (a b : After) (x : Answer) (e : refusal_of x ≡ sooner_of (refusal_of a.answer) (refusal_of b.answer)) (r : Paid) where
-  pub joined_kept : is_none (refusal_of x) ≡ false → r ≡ paid_as old x → JoinedAs old a b r
-  joined_kept n h = record {
-    told = ap (λ (s : Paid). refusal_of s.answer) h ∙ e;
-    ledgers = ap (λ (s : Paid). s.ledgers) h ∙ kept_both _ old (ledgers_as a.ledger b.ledger) (ap is_none (sym e) ∙ n);
-  }
-
-  pub joined_gone : is_none (refusal_of x) ≡ true → r ≡ paid_as (ledgers_as a.ledger b.ledger) x → JoinedAs old a b r
-  joined_gone n h = record {
-    told = ap (λ (s : Paid). refusal_of s.answer) h ∙ e;
-    ledgers = ap (λ (s : Paid). s.ledgers) h ∙ gone_both _ old (ledgers_as a.ledger b.ledger) (ap is_none (sym e) ∙ n);
-  }
-
 module _ (x y : Option Refusal) (old : Ledgers) (g h : lent.Ledger) (a : After) (la : Left x (ledger_of old.first) g a) where
   pub paid_alone : (paired : Bool) → paired ≡ false → (r : Paid) → r ≡ alone_as old a → PaidBy paired x y old g h r
   unfolding told_of second_of

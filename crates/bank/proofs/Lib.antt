@@ -1,4 +1,7 @@
 -- Laws of the record, of 13, of what an entry changes, a temperature among them, of both parts' ledgers, of the end, and of the promises.
+pub mod Kept
+pub mod Opened
+pub mod Defaults
 pub mod Stored
 pub mod Sizes
 pub mod Places
@@ -11,7 +14,6 @@ pub mod Changed
 pub mod Sensed
 pub mod Elevens
 pub mod Accounts
-pub mod Sooner
 pub mod Joined
 pub mod Thirteen
 pub mod Closed

@@ -1,7 +1,7 @@
 -- The parts of a record: their shares, and what the other part's bus tells.
 use Prim.Native.Nat.{ℕ, zero, suc, ◌-◌, ◌≤◌, ◌<◌}
 use mathlib.Core.Path.{◌≡◌, refl, ap, sym, ◌∙◌}
-use mathlib.Core.Bool.{Bool, true, false, cond, not, ◌&&◌}
+use mathlib.Core.Bool.{Bool, true, false, cond}
 use mathlib.Core.List.{[], ◌∷◌}
 use mathlib.Core.Option.{none}
 use native.Mathlib.Omega.{arith}
@@ -9,7 +9,7 @@ use lib.Dec.{eqb}
 use borrow.Author.Tests.{lt-ltb, eqb-true, eqb-false}
 use Rattle.rules.specs.Lists.{Every, is_one_of}
 use Rattle.rules.specs.Card.{Card}
-use Rattle.rules.specs.Whose.{is_of, part_of, other, parts}
+use Rattle.rules.specs.Whose.{part_of, other, parts}
 use Rattle.rules.specs.Delays.{Ask, last_rd, last_wr, last_rd_or_mrr, Question, means, latest_of, lagging_of}
 use Rattle.rules.specs.Lent as lent
 use Rattle.rules.specs.Lent.{Lent, has_part, look_in, answers_in}
@@ -34,15 +34,6 @@ part_low Both = omega arith
 pub share_in_lem : (r : Record) (p : ℕ) → p < 2 → (lent_of r).share p ≡ share_of (share_at r p)
 unfolding lent_of share_in
 share_in_lem r p h = rw (lt-ltb p 2 h)
-
--- the second part judges what is its own and not the first one's too
-pub second_judges : (w : Whose) → (is_of 1 (whose_of w) && not (is_of 0 (whose_of w))) ≡ eqb (part_of (whose_of w)) 1
-unfolding is_of part_of whose_of
-second_judges Sole = refl
-second_judges First = refl
-second_judges Second = refl
-second_judges Neither = refl
-second_judges Both = refl
 
 first_part : (w : Whose) → eqb (part_of (whose_of w)) 1 ≡ false → part_of (whose_of w) ≡ 0
 first_part w e = omega (arith, part_low w, eqb-false (part_of (whose_of w)) 1 e)

@@ -1,5 +1,5 @@
 -- Refusal 13 of what a record remembers, from the rules' tests over questions and banks to a test of each field.
-use Prim.Native.Nat.{ℕ, zero, suc, ◌≤◌, ◌<◌}
+use Prim.Native.Nat.{ℕ, ◌≤◌, ◌<◌}
 use mathlib.Core.Path.{◌≡◌, refl, ap, sym, ◌∙◌}
 use mathlib.Core.Logic.{⊎_elim}
 use mathlib.Core.Bool.{Bool, true, false, cond, ◌&&◌, and-true, and-false, and_assoc, and_comm}
@@ -7,9 +7,8 @@ use mathlib.Core.List.{List, [], ◌∷◌}
 use mathlib.Core.Option.{none, some}
 use native.Mathlib.Omega.{arith}
 use lib.Dec.{leb, ltb}
-use lib.ListN.{get_or, take}
-use lib.Seq.{take-nil}
-use borrow.Author.Tests.{lt-ltb, le-ltb, le-leb}
+use lib.ListN.{get_or}
+use borrow.Author.Tests.{le-ltb, le-leb}
 use Rattle.rules.specs.Lists.{all}
 use Rattle.rules.specs.Commands.{banks}
 use Rattle.rules.specs.Registers.{mr2_good, Modes}
@@ -52,9 +51,8 @@ use Rattle.bank.specs.declared.Once.{Once}
 use Rattle.bank.specs.declared.Noted.{Noted}
 use Rattle.bank.specs.declared.Each.{Each}
 use Rattle.bank.specs.declared.NotedEach.{NotedEach}
-use Rattle.bank.specs.declared.Four.{Four}
 use Rattle.bank.specs.declared.Share.{Share}
-use Rattle.bank.specs.Values.{entry, kept, once, noted, each, no_modes, noted_each, place, four, outweighed, pre_of, prea_of, asked, last_of, share_of}
+use Rattle.bank.specs.Values.{entry, kept, once, noted, each, no_modes, noted_each, outweighed, pre_of, prea_of, asked, last_of, share_of}
 use Rattle.bank.specs.Clauses.{kept_by, each_by, four_by, latest_by, moves_by, rows_by, bus_by, data_by, note_good, notes_good}
 
 -- ---- conjunctions
@@ -123,14 +121,6 @@ module _ (last : Once) where
   abbrev below : Found Modes → Bool
   below f = not_above (last_of last) f.stamp
 
-  pub not_above_last : (t : ℕ) → (last.seen && leb t last.at) ≡ not_above (last_of last) t
-  unfolding last_of not_above
-  not_above_last t = go last.seen
-    where
-      go : (s : Bool) → (s && leb t last.at) ≡ not_above (cond s (some last.at) none) t
-      go true = refl
-      go false = refl
-
   once_by : (s : Bool) (t : ℕ) (n : Modes) → all (λ b. all below (kept s t n)) banks ≡ kept_by last s t
   unfolding kept_by
   once_by s t n = kept_once below s t n
@@ -139,20 +129,6 @@ module _ (last : Once) where
       all (λ b. all below (kept (get_or s b false) (get_or t b 0) (n b))) banks ≡ each_by last s t
   unfolding kept_by each_by
   each_by_lem s t n = kept_each below (λ b. get_or s b false) (λ b. get_or t b 0) n
-
-  pub fours : (x : Four) → four_by last x ≡ onward (λ k. kept_by last (ltb k x.count) (get_or x.at k 0)) 0 4
-  unfolding four_by four all kept_by onward
-  fours x = go x.count
-    where
-      go : (n : ℕ) → all below (take n (place x 0 ∷ place x 1 ∷ place x 2 ∷ place x 3 ∷ [])) ≡ onward (λ k. kept_by last (ltb k n) (get_or x.at k 0)) 0 4
-      go zero = refl
-      go (suc zero) = refl
-      go (suc (suc zero)) = refl
-      go (suc (suc (suc zero))) = refl
-      go (suc (suc (suc (suc n)))) = rw (seen 0 (omega arith), seen 1 (omega arith), seen 2 (omega arith), seen 3 (omega arith), take-nil n)
-        where
-          seen : (k : ℕ) → k ≤ 3 → ltb k (suc (suc (suc (suc n)))) ≡ true
-          seen k h = lt-ltb k (suc (suc (suc (suc n)))) (omega arith)
 
   -- of two stamps, the later one tells
   later_tells : (t u : ℕ) → t ≤ u → (not_above (last_of last) t && not_above (last_of last) u) ≡ not_above (last_of last) u
@@ -205,12 +181,12 @@ module _ (z : Once) (s : Share) where
   pub stamps_are : stamps_good (last_of z) (share_of s) ≡ (
       latest_by z s.latest &&
       rows_by z s.banks s.latest.prea &&
-      all (λ b. all (λ f. not_above (last_of z) f.stamp) (asked s fourth_last b)) banks &&
+      four_by z s.four &&
       bus_by z s.bus &&
       data_by z s.banks &&
       moves_by z s.moves
       )
-  unfolding stamps_good all_stored share_of asked once noted each noted_each pre_of prea_of latest_by moves_by rows_by bus_by data_by
+  unfolding stamps_good all_stored share_of asked once noted each noted_each pre_of prea_of latest_by moves_by rows_by bus_by data_by four_by
   stamps_are =
       let l = s.latest in
       let u = s.bus in
@@ -223,7 +199,7 @@ module _ (z : Once) (s : Share) where
       once_by z l.refab.seen l.refab.at unnoted i &&
       once_by z l.refpb.seen l.refpb.at unnoted i) &&
       (each_by_lem z k.refpb.seen k.refpb.at (λ b. unnoted) i && pre_and_prea z k.pre l.prea i && each_by_lem z k.act.seen k.act.at (λ b. unnoted) i) &&
-      all (λ b. all (below z) (asked s fourth_last b)) banks &&
+      all_const (four_by z s.four) i &&
       (once_by z u.rd.seen u.rd.at unnoted i &&
       once_by z u.wr.seen u.wr.at (modes_of u.wr.modes) i &&
       once_by z u.turn.seen u.turn.at (modes_of u.turn.modes) i) &&

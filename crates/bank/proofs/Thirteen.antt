@@ -1,6 +1,6 @@
 -- 13 of a record: the card and the first part, and the second where it is there.
-use mathlib.Core.Path.{◌≡◌, refl, sym, ◌∙◌}
-use mathlib.Core.Bool.{Bool, true, false, cond, ◌&&◌}
+use mathlib.Core.Path.{◌≡◌, refl}
+use mathlib.Core.Bool.{Bool, true, false, cond, not, ◌&&◌, ◌||◌}
 use mathlib.Core.List.{[], ◌∷◌}
 use Rattle.rules.specs.Lists.{all}
 use Rattle.rules.specs.Whose.{parts}
@@ -26,20 +26,11 @@ module _ (r : Record) where
   abbrev firsts : Bool
   firsts = card_good (card_of r.card) && good r.first
 
-  by_parts : lent_good (lent_of r) ≡ (firsts && cond r.card.paired (good r.second) true)
+  pub by_parts : lent_good (lent_of r) ≡ (firsts && (not r.card.paired || good r.second))
   unfolding lent_good lent_of share_in parts
   by_parts = unfold card_of in go r.card.paired
     where
       go : (x : Bool) →
-          (card_good (card_of r.card) && all (λ p. share_good (card_of r.card) (last_of r.last) (share_in r p)) (cond x (0 ∷ 1 ∷ []) (0 ∷ []))) ≡ (firsts && cond x (good r.second) true)
+          (card_good (card_of r.card) && all (λ p. share_good (card_of r.card) (last_of r.last) (share_in r p)) (cond x (0 ∷ 1 ∷ []) (0 ∷ []))) ≡ (firsts && (not x || good r.second))
       go true = unfold all share_in in and_last (card_good (card_of r.card)) (good r.first) (good r.second)
       go false = unfold all share_in in and_three (card_good (card_of r.card)) (good r.first) true
-
-  pub good_not : firsts ≡ false → false ≡ lent_good (lent_of r)
-  good_not h = sym (by_parts ∙ rw h)
-
-  pub good_alone : firsts ≡ true → r.card.paired ≡ false → true ≡ lent_good (lent_of r)
-  good_alone h n = sym (by_parts ∙ rw (h, n))
-
-  pub good_both : firsts ≡ true → r.card.paired ≡ true → good r.second ≡ lent_good (lent_of r)
-  good_both h n = sym (by_parts ∙ rw (h, n))

@@ -115,30 +115,6 @@ opened_after c o =
     let shut = cond (shuts c) (set cleared (bank_of c) false) cleared in
     cond (is ACT c) (set shut (bank_of c) true) shut
 
-unfoldable pub read_on : (bank : ℕ) → (ap : Bool) → (stamp : ℕ) → Banks → Banks
-read_on k ap t x = record {
-  opened = x.opened;
-  refpb = x.refpb;
-  pre = x.pre;
-  act = x.act;
-  rd = put_each k t x.rd;
-  rda = each_if ap k t x.rda;
-  wr = x.wr;
-  wra = x.wra;
-}
-
-unfoldable pub written_on : (bank : ℕ) → (ap : Bool) → (stamp : ℕ) → Modes → Banks → Banks
-written_on k ap t m x = record {
-  opened = x.opened;
-  refpb = x.refpb;
-  pre = x.pre;
-  act = x.act;
-  rd = x.rd;
-  rda = x.rda;
-  wr = put_noted k t m x.wr;
-  wra = noted_each_if ap k t m x.wra;
-}
-
 -- the stamps of each bank alone
 unfoldable pub stamped_after : rules.Command → (counter stamp : ℕ) → Modes → Banks → Banks
 stamped_after c n t m x =

@@ -1,8 +1,8 @@
 -- The ledgers of both parts: what is answered of them, and what they are then.
-use Rattle.std.specs.Prelude.{ℕ, ◌+◌, ◌≡◌, Bool, true, false, cond, ltb, eqb}
+use Rattle.std.specs.Prelude.{ℕ, ◌+◌, ◌≡◌, Bool, true, false, cond, ltb, eqb, Result}
 use Rattle.std.proofs.Math.Option.{Option, none, some}
 use Rattle.rules.specs.Whose.{Whose, is_of}
-use Rattle.rules.specs.Checks.{Refusal}
+use Rattle.rules.specs.Checks as checks
 use Rattle.rules.specs.Lent as lent
 use Rattle.rules.specs.Lent.{beat_of, no_effect, enter_refusal, entered, moved_on, close_refusal}
 use Rattle.card.specs.Values.{card_of}
@@ -10,7 +10,7 @@ use Rattle.card.specs.declared.Card.{Card}
 use Rattle.ledger.specs.Values.{ledger_of, pace_of, refusal_of, unless_refused, Left}
 use Rattle.ledger.specs.declared.Ledger.{Ledger}
 use Rattle.ledger.specs.declared.Pace.{Pace}
-use Rattle.ledger.specs.declared.Answer.{Answer}
+use Rattle.ledger.specs.declared.Refusal.{Refusal}
 use Rattle.ledger.specs.declared.After.{After}
 use Rattle.bank.specs.declared.Ledgers.{Ledgers}
 use Rattle.bank.specs.declared.Paid.{Paid}
@@ -23,28 +23,28 @@ ledgers_as g h = record { first = g; second = h }
 unfoldable pub ledgers_in : Record → Ledgers
 ledgers_in r = ledgers_as r.first.ledger r.second.ledger
 
-abbrev pub paid_as : Ledgers → Answer → Paid
+abbrev pub paid_as : Ledgers → Result (Unit {0}) Refusal → Paid
 paid_as g a = record { ledgers = g; answer = a }
 
 -- how early a refusal by an account comes: 13, then 5, then 11 by its cycle
-unfoldable pub place_of : Refusal → ℕ
+unfoldable pub place_of : checks.Refusal → ℕ
 place_of x = cond (eqb x.number 13) 0 (cond (eqb x.number 5) 1 (2 + x.cycle))
 
-unfoldable pub comes_before : Option Refusal → Option Refusal → Bool
+unfoldable pub comes_before : Option checks.Refusal → Option checks.Refusal → Bool
 comes_before none y = false
 comes_before (some x) none = true
 comes_before (some x) (some y) = ltb (place_of x) (place_of y)
 
 -- where both come at once the first is told
-unfoldable pub sooner_of : Option Refusal → Option Refusal → Option Refusal
+unfoldable pub sooner_of : Option checks.Refusal → Option checks.Refusal → Option checks.Refusal
 sooner_of x y = cond (comes_before y x) y x
 
 -- of the second part only where it is there
-unfoldable pub told_of : (paired : Bool) → Option Refusal → Option Refusal → Option Refusal
+unfoldable pub told_of : (paired : Bool) → Option checks.Refusal → Option checks.Refusal → Option checks.Refusal
 told_of paired x y = cond paired (sooner_of x y) x
 
 -- this refusal, or none, is told, and the ledgers then are the new ones, or on a refusal the old ones
-pub record LeftBoth (o : Option Refusal) (old : Ledgers) (g h : lent.Ledger) (r : Paid) : Type 0 where
+pub record LeftBoth (o : Option checks.Refusal) (old : Ledgers) (g h : lent.Ledger) (r : Paid) : Type 0 where
   pub told : refusal_of r.answer ≡ o
   pub first : ledger_of r.ledgers.first ≡ unless_refused o (ledger_of old.first) g
   pub second : ledger_of r.ledgers.second ≡ unless_refused o (ledger_of old.second) h
@@ -54,7 +54,7 @@ unfoldable pub second_of : (paired : Bool) → Ledgers → lent.Ledger → lent.
 second_of paired old h = cond paired h (ledger_of old.second)
 
 -- x and y are what the two ledgers' accounts are refused with
-abbrev pub PaidBy : (paired : Bool) → (x y : Option Refusal) → (old : Ledgers) → (g h : lent.Ledger) → Paid → Type 0
+abbrev pub PaidBy : (paired : Bool) → (x y : Option checks.Refusal) → (old : Ledgers) → (g h : lent.Ledger) → Paid → Type 0
 PaidBy paired x y old g h r = LeftBoth (told_of paired x y) old g (second_of paired old h) r
 
 abbrev pub alone_as : Ledgers → After → Paid
@@ -72,7 +72,7 @@ module _ (own : Bool) (x : lent.Effect) (pace : Pace) (card : Card) (g : lent.Le
   abbrev pub entered_for : lent.Ledger
   entered_for = entered (effect_for own x) (beat_of (card_of card) (pace_of pace)) g t
 
-  abbrev pub refused_for : Option Refusal
+  abbrev pub refused_for : Option checks.Refusal
   refused_for = enter_refusal (effect_for own x) (card_of card) (pace_of pace) g t
 
 abbrev pub EnteredOn : (own : Bool) → Ledger → Pace → Card → (stamp : ℕ) → lent.Effect → After → Type 0

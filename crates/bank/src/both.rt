@@ -1,130 +1,76 @@
 // The ledgers of both parts: 11 looks at each. That of a part which is not there stays as it is.
 ghost use Rattle.std.specs.Prelude.{◌≡◌};
-ghost use Rattle.std.proofs.Math.Option.{some};
-ghost use Rattle.rules.specs.Checks.{refusal};
 ghost use Rattle.rules.specs.Lent.{move_refusal, moved_on};
 ghost use Rattle.card.specs.Values.{card_of};
 ghost use Rattle.pins.specs.Values.{whose_of};
-ghost use Rattle.ledger.specs.Values.{ledger_of, pace_of, effect_of, refusal_of, is_none};
-ghost use Rattle.bank.specs.Both.{ledgers_in, paid_as, comes_before, sooner_of, alone_as, JoinedAs, effect_for, PaidBy, EnteredOn, EnteredBoth};
+ghost use Rattle.ledger.specs.Values.{ledger_of, pace_of, effect_of, refusal_of, refused_as};
+ghost use Rattle.bank.specs.Both.{ledgers_in, place_of, sooner_of, alone_as, JoinedAs, effect_for, PaidBy, EnteredOn, EnteredBoth};
 
 use crate::{Ledgers, Paid, Record};
 use card::Card;
-use ledger::{After, Answer, Effect, Ledger, Pace};
+use ledger::{After, Effect, Ledger, Pace, Refusal};
 use pins::{Move, Whose};
 
+#[tactic(auto, unfolding(crate::specs::Both::ledgers_in))]
 pub fn ledgers_of(rec: Record) -> Ledgers
     ensures { result ≡ ledgers_in rec }
 {
-    let first = rec.first.ledger;
-    let second = rec.second.ledger;
     Ledgers {
-        first: first,
-        second: second,
+        first: rec.first.ledger,
+        second: rec.second.ledger,
     }
 }
 
-pub fn paid(ledgers: Ledgers, answer: Answer) -> Paid
-    ensures { result ≡ paid_as ledgers answer }
+// How early a refusal comes: 13, then 5, then 11 by its cycle.
+#[tactic(auto, unfolding(crate::specs::Both::place_of, rules::specs::Checks::refusal))]
+fn place(refusal: Refusal) -> u128
+    ensures { result ≡ place_of (refused_as refusal) }
 {
-    Paid {
-        ledgers: ledgers,
-        answer: answer,
+    match refusal {
+        Refusal::BadRecord => 0,
+        Refusal::Earlier => 1,
+        Refusal::Overdue { cycle, .. } => 2 + u128::from(cycle),
     }
 }
 
-#[tactic(auto, unfolding(ledger::specs::Values::refusal_of, ledger::specs::Values::is_none))]
-fn done(answer: Answer) -> bool
-    ensures { result ≡ is_none (refusal_of answer) }
-{
-    match answer {
-        Answer::Done => true,
-        Answer::BadRecord => false,
-        Answer::Earlier => false,
-        Answer::Overdue { .. } => false,
-    }
-}
-
-// Whether it comes before an 11 at this cycle.
-fn below(answer: Answer, limit: u64) -> bool
-    ensures { result ≡ comes_before (refusal_of answer) (some (refusal 11 0 limit)) }
-{
-    match answer {
-        Answer::Done => false,
-        Answer::BadRecord => true,
-        Answer::Earlier => true,
-        Answer::Overdue { cycle, .. } => cycle < limit,
-    }
-}
-
-// Whether it comes before a 5.
-fn bad(answer: Answer) -> bool
-    ensures { result ≡ comes_before (refusal_of answer) (some (refusal 5 0 0)) }
-{
-    match answer {
-        Answer::Done => false,
-        Answer::BadRecord => true,
-        Answer::Earlier => false,
-        Answer::Overdue { .. } => false,
-    }
-}
-
-fn overtakes(second: Answer, first: Answer) -> bool
-    ensures { result ≡ comes_before (refusal_of second) (refusal_of first) }
-{
-    match first {
-        Answer::Done => !done(second),
-        Answer::BadRecord => false,
-        Answer::Earlier => bad(second),
-        Answer::Overdue { cycle, .. } => below(second, cycle),
-    }
-}
-
-// What two parts' ledgers answer: 13, then 5, then the 11 of the lower cycle, at one cycle the first part's.
-fn sooner(first: Answer, second: Answer) -> Answer
+// What two parts' ledgers answer: the refusal that comes sooner, where both come at once the first part's.
+#[tactic(auto, unfolding(crate::specs::Both::sooner_of, crate::specs::Both::comes_before, ledger::specs::Values::refusal_of))]
+fn sooner(first: Result<(), Refusal>, second: Result<(), Refusal>) -> Result<(), Refusal>
     ensures { refusal_of result ≡ sooner_of (refusal_of first) (refusal_of second) }
 {
-    if overtakes(second, first) {
-        return second;
+    match (first, second) {
+        (Err(a), Err(b)) => Err(if place(b) < place(a) { b } else { a }),
+        _ => first.and(second),
     }
-    first
 }
 
 // The ledgers go on where neither is refused.
+#[tactic(auto, unfolding(ledger::specs::Values::refusal_of, ledger::specs::Values::unless_refused))]
 fn joined(stood: Ledgers, first: After, second: After) -> Paid
     ensures { JoinedAs stood first second result }
 {
-    let a = first.answer;
-    let b = second.answer;
-    let answer = sooner(a, b);
-    if !done(answer) {
-        return paid(stood, answer);
-    }
-    let there = first.ledger;
-    let then = second.ledger;
-    paid(
-        Ledgers {
-            first: there,
-            second: then,
+    let answer = sooner(first.answer, second.answer);
+    let ledgers = match answer {
+        Ok(()) => Ledgers {
+            first: first.ledger,
+            second: second.ledger,
         },
-        answer,
-    )
+        Err(_) => stood,
+    };
+    Paid { ledgers, answer }
 }
 
 // Of the one part.
 fn alone(stood: Ledgers, first: After) -> Paid
     ensures { result ≡ alone_as stood first }
 {
-    let answer = first.answer;
-    let there = first.ledger;
-    let second = stood.second;
-    paid(
-        Ledgers {
-            first: there,
-            second: second,
+    Paid {
+        ledgers: Ledgers {
+            first: first.ledger,
+            ..stood
         },
-        answer,
-    )
+        answer: first.answer,
+    }
 }
 
 // Moved on to a later cycle. Refused in this order: 13, 5, 11.
@@ -184,8 +130,7 @@ pub fn entered(
     let of_first = pins::is_first(whose);
     let of_second = pins::is_second(whose);
     let first = entered_on(of_first, ledgers.first, pace, card, stamp, effect);
-    let paired = card.paired;
-    if !paired {
+    if !card.paired {
         return alone(ledgers, first);
     }
     let second = entered_on(of_second, ledgers.second, pace, card, stamp, effect);

@@ -2,18 +2,25 @@
 ghost use Rattle.bank.specs.Both.{ClosedAs};
 
 use crate::{Paid, Record, both, sound};
-use ledger::Answer;
+use ledger::Refusal;
 
 // Refused in this order: 13, 5, 11. The ledgers that come back stand at E.
+#[tactic(auto, using(crate::proofs::Closed::bad, crate::proofs::Closed::early, crate::proofs::Closed::moved_on_lem))]
 pub fn close(rec: Record, end: u32) -> Paid
     ensures { ClosedAs rec end result }
 {
-    let stood = both::ledgers_of(rec);
+    let ledgers = both::ledgers_of(rec);
     if !sound::good(rec) {
-        return both::paid(stood, Answer::BadRecord);
+        return Paid {
+            ledgers,
+            answer: Err(Refusal::BadRecord),
+        };
     }
-    if rec.last.seen & (end < rec.last.at) {
-        return both::paid(stood, Answer::Earlier);
+    if !rec.last.is_by(end) {
+        return Paid {
+            ledgers,
+            answer: Err(Refusal::Earlier),
+        };
     }
-    both::moved(stood, rec.pace, rec.card, end)
+    both::moved(ledgers, rec.pace, rec.card, end)
 }

@@ -5,6 +5,8 @@ mod both;
 mod ending;
 mod fresh;
 mod parts;
+mod present;
+mod reading;
 mod sound;
 mod taking;
 
@@ -12,20 +14,22 @@ pub use both::{entered, ledgers_of};
 use card::{Card, Modes};
 pub use ending::close;
 pub use fresh::{fresh_record, idle_bus};
-use ledger::{Answer, Ledger, Pace};
+use ledger::{Ledger, Pace, Refusal};
 pub use parts::{own, theirs};
 pub use sound::good;
 pub use taking::{after, once_at, pushed, share_after};
 
 // The stamp of an entry. That there is no such entry yet is a state of its own, since a stamp uses all 32 bits.
-#[derive(Clone, Copy)]
+// A flag with a value beside it, since a record that is lent may hold any two; `stamp` reads them as an Option.
+#[derive(Clone, Copy, PartialEq, Eq, Default)]
 pub struct Once {
     pub seen: bool,
     pub at: u32,
 }
 
 // The same with the mode registers as they stood there.
-#[derive(Clone, Copy)]
+// Plain data, as a record lends them; `stamp` and `mr2` read them as Options.
+#[derive(Clone, Copy, PartialEq, Eq, Default)]
 pub struct Noted {
     pub seen: bool,
     pub at: u32,
@@ -33,13 +37,16 @@ pub struct Noted {
 }
 
 // One of each bank.
-#[derive(Clone, Copy)]
+// Two arrays, not one of Options: eight stamps and eight flags, of which a record may lend any; `stamp` reads one as an Option.
+#[derive(Clone, Copy, PartialEq, Eq, Default)]
 pub struct Each {
     pub seen: [bool; 8],
     pub at: [u32; 8],
 }
 
-#[derive(Clone, Copy)]
+// The same with the mode registers as they stood there.
+// Plain data, as a record lends them; `stamps` and `mr2` read them.
+#[derive(Clone, Copy, PartialEq, Eq, Default)]
 pub struct NotedEach {
     pub seen: [bool; 8],
     pub at: [u32; 8],
@@ -47,14 +54,15 @@ pub struct NotedEach {
 }
 
 // The last four activations of all banks, the newest first; a count above 4 is read as 4.
-#[derive(Clone, Copy)]
+// The count stands beside the array, since a record may lend any count.
+#[derive(Clone, Copy, PartialEq, Eq, Default)]
 pub struct Four {
     pub count: u8,
     pub at: [u32; 4],
 }
 
 // The latest entries of all banks together.
-#[derive(Clone, Copy)]
+#[derive(Clone, Copy, PartialEq, Eq, Default)]
 pub struct Latest {
     pub mrw: Once,
     pub mrr: Once,
@@ -64,7 +72,7 @@ pub struct Latest {
 }
 
 // Those that use the data bus, of all banks together; `turn` is the latest RD or MRR.
-#[derive(Clone, Copy)]
+#[derive(Clone, Copy, PartialEq, Eq, Default)]
 pub struct Bus {
     pub rd: Once,
     pub wr: Noted,
@@ -72,7 +80,7 @@ pub struct Bus {
 }
 
 // The latest entries to each bank. A PRE counts where no later PRE-all came, and a PRE-all where no later PRE of the bank did.
-#[derive(Clone, Copy)]
+#[derive(Clone, Copy, PartialEq, Eq, Default)]
 pub struct Banks {
     pub opened: [bool; 8],
     pub refpb: Each,
@@ -85,7 +93,7 @@ pub struct Banks {
 }
 
 // The latest moves of clock-enable: a fall, and a rise from power-down and from self-refresh.
-#[derive(Clone, Copy)]
+#[derive(Clone, Copy, PartialEq, Eq, Default)]
 pub struct Moves {
     pub fall: Once,
     pub power_exit: Once,
@@ -93,7 +101,8 @@ pub struct Moves {
 }
 
 // What is kept of a part; its level is the ledger's.
-#[derive(Clone, Copy)]
+// Fields that anyone may set, since a record is lent: `good` says what they keep.
+#[derive(Clone, Copy, PartialEq, Eq)]
 pub struct Share {
     pub modes: Modes,
     pub counter: u8,
@@ -107,6 +116,7 @@ pub struct Share {
 
 // `last` is the last entry's stamp, of whichever part, and the pace is one for all parts. Where the card has no tag 25 there is one part, and `second` is not
 // looked at.
+// Fields that anyone may set, since a record is lent: `good` says what they keep.
 #[derive(Clone, Copy)]
 pub struct Record {
     pub card: Card,
@@ -127,5 +137,5 @@ pub struct Ledgers {
 #[derive(Clone, Copy)]
 pub struct Paid {
     pub ledgers: Ledgers,
-    pub answer: Answer,
+    pub answer: Result<(), Refusal>,
 }

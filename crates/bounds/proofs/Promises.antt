@@ -1,25 +1,26 @@
 -- The promise of each public function determines its answer.
 use mathlib.Core.Path.{◌≡◌, refl, sym, ◌∙◌}
+use Rattle.std.specs.Prelude as rust
+use Rattle.std.specs.Prelude.{None, Some}
 use mathlib.Core.Option.{Option, none, some}
 use Rattle.rules.specs.Checks.{Refusal, refusal}
 use Rattle.rules.proofs.Determined.{tells, Promise, Determined, determined, fact_of}
 use Rattle.bounds.specs.Values.{refusal_of}
 use Rattle.bounds.specs.declared.Broken.{Broken}
-use Rattle.bounds.specs.declared.Broken.TheVariants.{Nothing, Rule}
 use Rattle.bounds.specs.contracts.folds.first_broken as first_broken
 use Rattle.bounds.specs.contracts.folds.first_cycle as first_cycle
 
-broken_in : Option Refusal → Broken
-broken_in none = Nothing
-broken_in (some x) = Rule x.rule x.cycle
+broken_in : Option Refusal → rust.Option Broken
+broken_in none = None
+broken_in (some x) = Some (record { rule = x.rule; cycle = x.cycle })
 
-back : (r : Broken) → broken_in (refusal_of r) ≡ r
+back : (r : rust.Option Broken) → broken_in (refusal_of r) ≡ r
 unfolding broken_in refusal_of refusal
-back Nothing = refl
-back (Rule q t) = refl
+back None = refl
+back (Some b) = refl
 
 -- answers with the same numbers are one
-one_broken : {z : Option Refusal} (x y : Broken) → refusal_of x ≡ z → refusal_of y ≡ z → x ≡ y
+one_broken : {z : Option Refusal} (x y : rust.Option Broken) → refusal_of x ≡ z → refusal_of y ≡ z → x ≡ y
 one_broken = tells refusal_of broken_in back
 
 abbrev first_broken_says : Promise first_broken.ended

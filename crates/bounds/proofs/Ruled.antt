@@ -4,7 +4,8 @@ use mathlib.Core.Path.{◌≡◌, refl, ap, sym, ◌∙◌}
 use mathlib.Core.Bool.{Bool, not, ◌||◌}
 use mathlib.Core.List.{List, [], ◌∷◌, ◌++◌}
 use native.Mathlib.Omega.{arith}
-use lib.ListN.{get_or}
+use mathlib.Core.Option.{Option}
+use lib.ListN.{get_or, get_elem?}
 use Rattle.rules.specs.Lists.{when}
 use Rattle.rules.specs.Commands as rules
 use Rattle.rules.specs.Commands.{code, NOP, MRW, MRR, REFPB, REFAB, ACT, RD, WR, PRE, PREA, is, banks}
@@ -19,17 +20,16 @@ use Rattle.card.specs.Values.{clocks_of}
 use Rattle.card.specs.declared.Delays.{Delays}
 use Rattle.pins.specs.Values.{command_of, level_of}
 use Rattle.pins.specs.declared.Command.{Command}
-use Rattle.bank.specs.Values.{no_modes, share_of, bus_look, idle_bus, fresh_share}
+use Rattle.bank.specs.Values.{once, noted, no_modes, share_of, bus_look, idle_bus, fresh_share}
 use Rattle.bank.specs.declared.Bus.{Bus}
 use Rattle.bank.specs.declared.Share.{Share}
 use Rattle.bounds.specs.Values.{look_with}
-use Rattle.bounds.specs.Parts.{bounds_of, rule_at, place_of, bound_of, across_of, ask_of, asked_for, found_as, delay_in, sources_of, broken_from, greatest_of}
+use Rattle.bounds.specs.Parts.{bounds_of, rule_at, place_of, bound_of, across_of, ask_of, asked_for, delay_in, sources_of, broken_from, greatest_of}
 use Rattle.bounds.specs.declared.answers.Ask.{Ask}
 use Rattle.bounds.specs.declared.answers.Ask.TheVariants.{Mrw, Mrr, Refab, Refpb, RefpbTo, PreTo, PreaTo, ActTo, FourthLast, Rd, Wr, RdOrMrr, RdTo, RdaTo, WrTo, WraTo, Fall, PowerExit, SelfExit}
-use Rattle.bounds.specs.declared.answers.Found.{Found}
 use Rattle.bounds.specs.declared.delays.Lag.{Lag}
 use Rattle.bounds.specs.declared.delays.Lag.TheVariants.{Plain, Written, Turned, Recovered}
-use Rattle.bounds.proofs.Spanned.{joined}
+use Rattle.bounds.proofs.Spanned.{joined, others_if}
 use Rattle.bounds.proofs.Sourced.{own_asked, far, far_asked, across_both, rd_heard, wr_heard, turn_heard}
 
 -- ---- by whatever bus of the other part and whatever move
@@ -158,14 +158,14 @@ module _ (s : Share) (d : Delays) (c : Command) (x : Bus) (v : Move) where
   in_self_refresh_is = one Fall d.tckesr (own (rises_from self_refresh v))
 
   -- those that ask the other part
-  abbrev rd : Found
-  rd = found_as x.rd.seen x.rd.at no_modes
+  abbrev rd : Option (folds.Found Modes)
+  rd = get_elem? (once x.rd) 0
 
-  abbrev wr : Found
-  wr = found_as x.wr.seen x.wr.at x.wr.modes
+  abbrev wr : Option (folds.Found Modes)
+  wr = get_elem? (noted x.wr) 0
 
-  abbrev turn : Found
-  turn = found_as x.turn.seen x.turn.at x.turn.modes
+  abbrev turn : Option (folds.Found Modes)
+  turn = get_elem? (noted x.turn) 0
 
   pub across_are : by 25 ∷ by 26 ∷ by 27 ∷ [] ≡
       max (far (is RD k || is MRR k) rd Plain 4 d.gap) (far (is WR k) wr Plain 4 d.gap) ∷
@@ -235,28 +235,9 @@ module _ (s : Share) (d : Delays) (c : Command) (x : Bus) (v : Move) where
       nth 0 t i ∷ nth 1 t i ∷ nth 0 r i ∷ nth 1 r i ∷ nth 0 w i ∷ nth 1 w i ∷ moves i ∷ nth 0 z i ∷ rest i ∷ nth 1 z i ∷
       nth 0 o i ∷ nth 1 o i ∷ nth 2 o i ∷ []
 
-  -- put together from the answers of the groups
-  pub gathered : (a p y t r w z o : List ℕ) (four ten eleven twelve moves rest : ℕ)
-      → a ≡ still 1 ∷ still 2 ∷ still 3 ∷ []
-      → p ≡ still 5 ∷ still 6 ∷ []
-      → y ≡ still 7 ∷ still 8 ∷ still 9 ∷ []
-      → t ≡ still 13 ∷ still 14 ∷ []
-      → r ≡ still 15 ∷ still 16 ∷ []
-      → w ≡ still 17 ∷ still 18 ∷ []
-      → four ≡ still 4 → ten ≡ still 10 → eleven ≡ still 11 → twelve ≡ still 12
-      → z ≡ still 22 ∷ still 24 ∷ []
-      → moves ≡ with 21 → rest ≡ with 23
-      → o ≡ over 25 ∷ over 26 ∷ over 27 ∷ []
-      → get_or a 0 0 ∷ get_or a 1 0 ∷ get_or a 2 0 ∷ four ∷ get_or p 0 0 ∷ get_or p 1 0 ∷ get_or y 0 0 ∷ get_or y 1 0 ∷ get_or y 2 0 ∷ ten ∷ eleven ∷ twelve ∷
-      get_or t 0 0 ∷ get_or t 1 0 ∷ get_or r 0 0 ∷ get_or r 1 0 ∷ get_or w 0 0 ∷ get_or w 1 0 ∷ moves ∷ get_or z 0 0 ∷ rest ∷ get_or z 1 0 ∷
-      get_or o 0 0 ∷ get_or o 1 0 ∷ get_or o 2 0 ∷ []
-      ≡ bounds_of s x d c v
-  gathered a p y t r w z o four ten eleven twelve moves rest ea ep ey et er ew e4 e10 e11 e12 ez e21 e23 eo =
-      rw (ea, ep, ey, et, er, ew, e4, e10, e11, e12, ez, e21, e23, eo) (sym by_number)
-
 -- named by the file of the table: what unfolds this unfolds all these, and the laws
 unfoldable pub opened : ℕ
 unfolding is code bound_of across_of level_of
 opened = 0
 
-pub ruleset by_rule = (all_banks_are, after_refpb_is, after_precharge_are, after_act_are, other_banks_is, four_before_is, bursts_is, turns_are, after_rd_are, after_wr_are, between_moves_is, after_exit_are, in_self_refresh_is)
+pub ruleset by_rule = (all_banks_are, after_refpb_is, after_precharge_are, after_act_are, other_banks_is, four_before_is, bursts_is, turns_are, after_rd_are, after_wr_are, between_moves_is, after_exit_are, in_self_refresh_is, others_if)

@@ -1,42 +1,33 @@
--- The banks of a span, one after the other: what the loop over them is held to.
+-- The banks that a rule asks for, one after the other: what the loop over them is held to.
 use Prim.Native.Nat.{ℕ, suc, ◌+◌, ◌-◌, ◌≤◌, ◌<◌, max}
 use mathlib.Core.Path.{◌≡◌, refl, ap, ◌∙◌}
 use mathlib.Core.Bool.{Bool, true, false, cond}
 use mathlib.Core.List.{List, [], ◌∷◌, ◌++◌}
 use mathlib.Core.Option.{Option, none, some}
+use Rattle.std.specs.Prelude as rust
+use Rattle.std.specs.Prelude.{None, Some}
+use Rattle.std.specs.Bool.{then_some}
+use Rattle.std.specs.List.{range_with_len}
+use Rattle.std.specs.Option.{option_eq}
 use native.Mathlib.Omega.{arith}
 use lib.Dec.{eqb}
 use Rattle.rules.specs.Folds as folds
 use Rattle.rules.specs.Folds.{Source, permitted, permitted_by}
 use Rattle.rules.specs.Lists.{when}
-use Rattle.rules.specs.Commands.{banks, Command, nop, mrw, mrr, refpb, refab, act, rd, wr, pre, prea, code, is, kind_of, bank_of, carries, bare}
+use Rattle.rules.specs.Commands.{banks, code, is, kind_of, bank_of, carries, bare}
 use Rattle.rules.specs.Registers.{Modes}
 use Rattle.rules.specs.Past.{bank_at}
 use Rattle.rules.specs.Delays.{Answers, without, idle_use, precharged}
 use Rattle.pins.specs.Values.{command_of}
-use Rattle.bounds.specs.Parts.{asked_for, range, span_of, delay_in, permitted_after, sources_of}
+use Rattle.bounds.specs.Parts.{asked_for, banks_but, asked_of, delay_in, permitted_after, sources_of}
 use Rattle.bounds.specs.declared.answers.Ask.{Ask}
+use Rattle.bounds.specs.declared.banks.Banks.TheVariants.{One, AllBut}
 use Rattle.bounds.specs.declared.delays.Lag.{Lag}
-use Rattle.bounds.specs.declared.spans.Span.{Span}
 
--- named by the file of the spans: what unfolds this unfolds all these
+-- named by the files of the banks and of the kinds: what unfolds this unfolds all these
 unfoldable pub opened : ℕ
-unfolding span_of range without idle_use precharged when bank_at banks is code kind_of bank_of carries bare command_of
+unfolding asked_of idle_use precharged when bank_at banks is code kind_of bank_of carries bare command_of
 opened = 0
-
--- no command but REFpb goes by the counter, and REFpb names no bank
-pub own_bank : (c : Command) → bank_at c 0 ≡ bank_of c
-unfolding bank_at is code kind_of bank_of carries bare
-own_bank nop = refl
-own_bank (mrw ma op) = refl
-own_bank (mrr ma) = refl
-own_bank refpb = refl
-own_bank refab = refl
-own_bank (act bank row) = refl
-own_bank (rd bank column ap) = refl
-own_bank (wr bank column ap) = refl
-own_bank (pre bank) = refl
-own_bank prea = refl
 
 pub same_permitted : {Q : Type 0} (s : Source Q Modes) (g : Lag) (d : ℕ) (o : Option (folds.Found Modes)) → ((m : Modes) → s.delay m ≡ delay_in g d m)
     → permitted s o ≡ permitted_after g d o
@@ -49,52 +40,75 @@ unfolding permitted_by
 joined look [] ys = omega arith
 joined look (x ∷ xs) ys = omega (arith, joined look xs ys)
 
+-- and by what asks for banks
+unfoldable pub asked_opened : ℕ
+unfolding asked_of banks_but sources_of permitted_by
+asked_opened = 0
+
+-- a command's own bank, and the others, where a rule asks for them
+pub own_if : (w : Bool) (b : ℕ) → asked_of (then_some w (One b)) ≡ when w (b ∷ [])
+unfolding asked_of when
+own_if true b = refl
+own_if false b = refl
+
+pub others_if : (w : Bool) (b : ℕ) → asked_of (then_some w (AllBut b)) ≡ when w (without b banks)
+unfolding asked_of when
+others_if true b = refl
+others_if false b = refl
+
 module _ (look : Answers) (a : Ask) (g : Lag) (d : ℕ) where
   abbrev over : List ℕ → ℕ
   over bs = permitted_by look (sources_of bs a g d)
 
-  abbrev at : (but bank : ℕ) → ℕ
-  at but bank = cond (eqb bank but) 0 (permitted_after g d (look (asked_for a bank)))
+  abbrev at : ℕ → ℕ
+  at bank = permitted_after g d (look (asked_for a bank))
 
   -- `n` banks from `first` on
-  abbrev left : (but first n : ℕ) → ℕ
-  left but first n = over (without but (range first n))
+  abbrev left : rust.Option ℕ → (first n : ℕ) → ℕ
+  left but first n = over (banks_but but (range_with_len first n))
 
-  first_of : (b : ℕ) (bs : List ℕ) → over (b ∷ bs) ≡ max (permitted_after g d (look (asked_for a b))) (over bs)
+  pub first_of : (b : ℕ) (bs : List ℕ) → over (b ∷ bs) ≡ max (at b) (over bs)
   unfolding sources_of permitted_by
   first_of b bs = rw (same_permitted (record { ask = asked_for a b; delay = delay_in g d }) g d (look (asked_for a b)) (λ m. refl))
 
-  one_more : (but first n : ℕ) → left but first (suc n) ≡ max (at but first) (left but (suc first) n)
-  unfolding range without
-  one_more but first n = go (eqb first but)
+  pub one_asked : (b : ℕ) → over (b ∷ []) ≡ at b
+  unfolding sources_of permitted_by
+  one_asked b = let e = first_of b [] in omega (arith, e)
+
+  one_more : (but : rust.Option ℕ) (first n : ℕ)
+      → left but first (suc n) ≡ cond (option_eq eqb (Some first) but) (left but (first + 1) n) (max (at first) (left but (first + 1) n))
+  unfolding banks_but without
+  one_more None first n = first_of first (range_with_len (first + 1) n)
+  one_more (Some b) first n = go (eqb first b)
     where
-      go : (b : Bool) → over (cond b (without but (range (suc first) n)) (first ∷ without but (range (suc first) n)))
-          ≡ max (cond b 0 (permitted_after g d (look (asked_for a first)))) (over (without but (range (suc first) n)))
-      go true = omega arith
-      go false = first_of first (without but (range (suc first) n))
+      go : (t : Bool) → over (cond t (without b (range_with_len (first + 1) n)) (first ∷ without b (range_with_len (first + 1) n)))
+          ≡ cond t (over (without b (range_with_len (first + 1) n))) (max (at first) (over (without b (range_with_len (first + 1) n))))
+      go true = refl
+      go false = first_of first (without b (range_with_len (first + 1) n))
 
-  -- the greatest so far, and the banks that are left
-  pub begins : (s : Span) → over (span_of s) ≡ max 0 (left s.but (s.first + 0) (s.count - 0))
-  unfolding span_of
-  begins s =
-      let a : s.first + 0 ≡ s.first = omega arith in
-      let b : s.count - 0 ≡ s.count = omega arith in
-      let p : left s.but (s.first + 0) (s.count - 0) ≡ over (span_of s) = rw (a, b) in
-      omega (arith, p)
+  -- the banks that are left, of eight: the first of them is passed over, or asked
+  module _ (but : rust.Option ℕ) (b : ℕ) where
+    next : b < 8 → left but b (8 - b) ≡ cond (option_eq eqb (Some b) but) (left but (b + 1) (8 - (b + 1))) (max (at b) (left but (b + 1) (8 - (b + 1))))
+    next h =
+        let n : 8 - b ≡ suc (8 - (b + 1)) = omega arith in
+        ap (left but b) n ∙ one_more but b (8 - (b + 1))
 
-  pub goes_on : (s : Span) (k best x : ℕ) → over (span_of s) ≡ max best (left s.but (s.first + k) (s.count - k)) → k < s.count
-      → x ≡ at s.but (s.first + k) → over (span_of s) ≡ max (max best x) (left s.but (s.first + (k + 1)) (s.count - (k + 1)))
-  goes_on s k best x e h f =
-      let n : s.count - k ≡ suc (s.count - (k + 1)) = omega arith in
-      let m : suc (s.first + k) ≡ s.first + (k + 1) = omega arith in
-      let o = one_more s.but (s.first + k) (s.count - (k + 1)) in
-      let p : left s.but (s.first + k) (s.count - k) ≡ max x (left s.but (s.first + (k + 1)) (s.count - (k + 1))) =
-      ap (left s.but (s.first + k)) n ∙ o ∙ rw (f, m) in
-      omega (arith, e, p)
+    pub passed : b < 8 → option_eq eqb (Some b) but ≡ true → left but b (8 - b) ≡ left but (b + 1) (8 - (b + 1))
+    passed h t = next h ∙ rw t
 
-  pub all_asked : (s : Span) (k best : ℕ) → over (span_of s) ≡ max best (left s.but (s.first + k) (s.count - k)) → s.count ≤ k → best ≡ over (span_of s)
-  unfolding range without sources_of permitted_by
-  all_asked s k best e h =
-      let n : s.count - k ≡ 0 = omega arith in
-      let z : left s.but (s.first + k) (s.count - k) ≡ 0 = ap (left s.but (s.first + k)) n in
-      omega (arith, e, z)
+    pub goes_on : b < 8 → option_eq eqb (Some b) but ≡ false → left but b (8 - b) ≡ max (at b) (left but (b + 1) (8 - (b + 1)))
+    goes_on h t = next h ∙ rw t
+
+  pub begins : (but : rust.Option ℕ) → over (banks_but but banks) ≡ left but 0 8
+  unfolding banks
+  begins but = refl
+
+  pub none_left : (but : rust.Option ℕ) (b : ℕ) → 8 ≤ b → left but b (8 - b) ≡ 0
+  unfolding banks_but without sources_of permitted_by
+  none_left but b h = let n : 8 - b ≡ 0 = omega arith in ap (left but b) n ∙ empty but
+    where
+      empty : (but : rust.Option ℕ) → left but b 0 ≡ 0
+      empty None = refl
+      empty (Some o) = refl
+
+pub ruleset by_bank = (begins, passed, goes_on, none_left)

@@ -1,7 +1,10 @@
 -- The private types of the code, read as questions, answers, banks and delays of the rules; the bounds by rule.
 use Rattle.std.specs.Prelude.{ℕ, zero, suc, ◌+◌, ◌-◌, max, Bool, cond, List, [], ◌∷◌, map, leb, ltb, get_or}
+use Rattle.std.specs.Prelude as rust
+use Rattle.std.specs.Prelude.{None, Some}
 use Rattle.std.proofs.Math.Option.{Option, none, some}
 use Rattle.rules.specs.Levels.{Move, stays}
+use Rattle.rules.specs.Commands.{banks}
 use Rattle.rules.specs.Registers.{rl_of, wl_of, nwr_of}
 use Rattle.rules.specs.Registers as registers
 use Rattle.rules.specs.Folds.{Source, bound}
@@ -10,19 +13,18 @@ use Rattle.rules.specs.Delays as paper
 use Rattle.rules.specs.Delays.{Question, without}
 use Rattle.card.specs.Values.{modes_of, clocks_of}
 use Rattle.card.specs.declared.Delays.{Delays}
-use Rattle.card.specs.declared.Modes.{Modes}
-use Rattle.pins.specs.Values.{command_of}
+use Rattle.pins.specs.Values.{command_of, moved_of}
 use Rattle.pins.specs.declared.Command.{Command}
 use Rattle.bank.specs.Values.{entry, no_modes, idle_bus, fresh_share}
-use Rattle.bank.specs.declared.Once.{Once}
 use Rattle.bank.specs.declared.Bus.{Bus}
 use Rattle.bank.specs.declared.Share.{Share}
 use Rattle.bounds.specs.Values.{look_with}
 use Rattle.bounds.specs.declared.answers.Ask.{Ask}
 use Rattle.bounds.specs.declared.answers.Ask.TheVariants.{Mrw, Mrr, Refab, Refpb, RefpbTo, PreTo, PreaTo, ActTo, FourthLast, Rd, Wr, RdOrMrr, RdTo, RdaTo, WrTo, WraTo, Fall, PowerExit, SelfExit}
 use Rattle.bounds.specs.declared.answers.Found.{Found}
-use Rattle.bounds.specs.declared.spans.Shown.{Shown}
-use Rattle.bounds.specs.declared.spans.Span.{Span}
+use Rattle.bounds.specs.declared.banks.Banks.{Banks}
+use Rattle.bounds.specs.declared.banks.Banks.TheVariants.{One, Every, AllBut}
+use Rattle.bounds.specs.declared.offer.Offer.{Offer}
 use Rattle.bounds.specs.declared.delays.Lag.{Lag}
 use Rattle.bounds.specs.declared.delays.Lag.TheVariants.{Plain, Written, Turned, Recovered}
 
@@ -40,6 +42,13 @@ place_of k = k - cond (ltb k 19) 1 3
 -- rule k's: one that asks the part alone, and one that asks the other part, whatever the own share is
 unfoldable pub bound_of : Share → Delays → Command → Move → ℕ → ℕ
 bound_of s d c v k = get_or (bounds_of s idle_bus d c v) (place_of k) 0
+
+-- the same of an offer, whatever its move is, and by its move
+abbrev pub still_of : Offer → ℕ → ℕ
+still_of o k = bound_of o.share.now o.delays.now o.command stays k
+
+abbrev pub moving_of : Offer → ℕ → ℕ
+moving_of o k = bound_of o.share.now o.delays.now o.command (moved_of o.moved) k
 
 unfoldable pub across_of : Bus → Delays → Command → ℕ → ℕ
 across_of x d c k = get_or (bounds_of (fresh_share no_modes) x d c stays) (place_of k) 0
@@ -78,25 +87,26 @@ ask_of SelfExit = paper.last_self_exit
 unfoldable pub asked_for : Ask → ℕ → Question
 asked_for a b = record { ask = ask_of a; bank = b }
 
-abbrev pub once_as : Bool → ℕ → Once
-once_as s t = record { seen = s; at = t }
+unfoldable pub answer_of : rust.Option Found → Option (folds.Found registers.Modes)
+answer_of None = none
+answer_of (Some x) = some (entry x.at (modes_of x.modes))
 
-abbrev pub found_as : Bool → (at : ℕ) → Modes → Found
-found_as s t m = record { seen = s; at = t; modes = m }
-
-unfoldable pub answer_of : Found → Option (folds.Found registers.Modes)
-answer_of x = cond x.seen (some (entry x.at (modes_of x.modes))) none
+-- the first answer, unless the second came later
+unfoldable pub unless_later : Option (folds.Found registers.Modes) → Option (folds.Found registers.Modes) → Option (folds.Found registers.Modes)
+unless_later none y = none
+unless_later (some x) none = some x
+unless_later (some x) (some y) = cond (ltb x.stamp y.stamp) none (some x)
 
 -- ---- the banks asked for
-abbrev pub shown_as : (kind bank : ℕ) → Shown
-shown_as k b = record { kind = k; bank = b }
+unfoldable pub banks_but : rust.Option ℕ → List ℕ → List ℕ
+banks_but None bs = bs
+banks_but (Some b) bs = without b bs
 
-unfoldable pub range : (first count : ℕ) → List ℕ
-range first zero = []
-range first (suc n) = first ∷ range (suc first) n
-
-unfoldable pub span_of : Span → List ℕ
-span_of s = without s.but (range s.first s.count)
+unfoldable pub asked_of : rust.Option Banks → List ℕ
+asked_of None = []
+asked_of (Some (One b)) = b ∷ []
+asked_of (Some Every) = banks
+asked_of (Some (AllBut b)) = without b banks
 
 -- ---- delays
 unfoldable pub delay_in : Lag → (clocks : ℕ) → registers.Modes → ℕ
@@ -108,6 +118,11 @@ delay_in (Recovered w) d m = wl_of m.mr2 + nwr_of w m + d
 unfoldable pub permitted_after : Lag → (clocks : ℕ) → Option (folds.Found registers.Modes) → ℕ
 permitted_after g d none = 0
 permitted_after g d (some f) = f.stamp + delay_in g d f.noted
+
+-- by the other part, raised by the gap
+unfoldable pub raised_after : Lag → (clocks gap : ℕ) → Option (folds.Found registers.Modes) → ℕ
+raised_after g d h none = 0
+raised_after g d h (some f) = permitted_after g d (some f) + h
 
 unfoldable pub sources_of : List ℕ → Ask → Lag → (clocks : ℕ) → List (Source Question registers.Modes)
 sources_of bs a g d = map (λ b. record { ask = asked_for a b; delay = delay_in g d }) bs

@@ -1,14 +1,17 @@
 // How a record answers the questions of the delay rules.
-ghost use Rattle.std.specs.Prelude.{◌≡◌, false, cond, ◌&&◌, not, [], get_or};
+ghost use Rattle.std.specs.Prelude.{◌≡◌, ℕ, List};
 ghost use Rattle.std.proofs.Math.ListN.{get_elem?};
+ghost use Rattle.rules.specs.Folds as folds;
+ghost use Rattle.rules.specs.Registers as registers;
 ghost use Rattle.rules.specs.Lent.{look_in};
-ghost use Rattle.bank.specs.Values.{once, each, no_modes, four, share_of, outweighed};
-ghost use Rattle.bounds.specs.Parts.{once_as, found_as, asked_for, answer_of};
+ghost use Rattle.bank.specs.Values.{once, noted, each, noted_each, four, share_of};
+ghost use Rattle.bounds.specs.Parts.{answer_of, unless_later, asked_for};
 
 use bank::{Each, Four, Noted, NotedEach, Once, Share};
 use card::Modes;
 
-// The latest entry of a kind, or of a kind to one bank; the first of the four latest activations; the latest RD or MRR; the latest moves of clock-enable.
+// What the rules ask (`ask_of`), as data that their table pairs with banks and a delay: the latest entry of a kind, or of a kind to one bank; the first of the
+// four latest activations; the latest RD or MRR; the latest moves of clock-enable.
 #[derive(Clone, Copy)]
 pub enum Ask {
     Mrw,
@@ -32,137 +35,137 @@ pub enum Ask {
     SelfExit,
 }
 
-// An entry's stamp and the mode registers as they stood there, if there is one; none where no rule goes by them.
+// An entry's stamp, and the mode registers as they stood there.
 #[derive(Clone, Copy)]
 pub struct Found {
-    pub seen: bool,
     pub at: u32,
     pub modes: Modes,
 }
 
-const NO_MODES: Modes = Modes {
+// The registers that the rules note of an entry where none of them goes by these (`unnoted`).
+const UNNOTED: Modes = Modes {
     mr2: 0,
     programmed: false,
     mr1: 0,
 };
 
-// A bank above 7 has no entry. The arrays are looked into where they lie: a copy of them would cost more than the look.
-fn each_at(x: Each, bank: usize) -> Once
-    ensures { result ≡ once_as (get_or x.seen bank false) (get_or x.at bank 0) }
-{
-    if 7 < bank {
-        return Once { seen: false, at: 0 };
-    }
-    Once {
-        seen: x.seen[bank],
-        at: x.at[bank],
-    }
+// The latest entry of a kind, for all banks together, if there is one. What a record keeps is lent as four plain types (`bank`), so each has its own look.
+pub trait Kept {
+    ghost kept: { Self → List (folds.Found registers.Modes) };
+
+    fn latest(&self) -> Option<Found>
+        ensures { answer_of result ≡ get_elem? (kept self.now) 0 };
 }
 
-pub fn of_once(x: Once) -> Found
-    ensures { result ≡ found_as x.seen x.at no_modes }
-{
-    Found {
-        seen: x.seen,
-        at: x.at,
-        modes: NO_MODES,
+impl Kept for Once {
+    ghost kept = { once };
+
+    #[tactic(auto, unfolding(crate::proofs::Kept::kept_opened))]
+    fn latest(&self) -> Option<Found> {
+        self.seen.then_some(Found {
+            at: self.at,
+            modes: UNNOTED,
+        })
     }
 }
 
-pub fn of_noted(x: Noted) -> Found
-    ensures { result ≡ found_as x.seen x.at x.modes }
-{
-    let modes = x.modes;
-    Found {
-        seen: x.seen,
-        at: x.at,
-        modes: modes,
+impl Kept for Noted {
+    ghost kept = { noted };
+
+    #[tactic(auto, unfolding(crate::proofs::Kept::kept_opened))]
+    fn latest(&self) -> Option<Found> {
+        self.seen.then_some(Found {
+            at: self.at,
+            modes: self.modes,
+        })
     }
 }
 
-fn of_each(x: Each, bank: usize) -> Found
-    ensures { result ≡ found_as (get_or x.seen bank false) (get_or x.at bank 0) no_modes }
-{
-    of_once(each_at(x, bank))
+// The latest entry of a kind to a bank, if there is one. A bank above 7 has none.
+pub trait KeptByBank {
+    ghost kept: { Self → ℕ → List (folds.Found registers.Modes) };
+
+    fn latest_to(&self, bank: u8) -> Option<Found>
+        ensures { answer_of result ≡ get_elem? (kept self.now bank) 0 };
 }
 
-fn of_noted_each(x: NotedEach, bank: usize) -> Found
-    ensures { result ≡ found_as (get_or x.seen bank false) (get_or x.at bank 0) (get_or x.modes bank no_modes) }
-{
-    if 7 < bank {
-        return Found {
-            seen: false,
-            at: 0,
-            modes: NO_MODES,
-        };
-    }
-    Found {
-        seen: x.seen[bank],
-        at: x.at[bank],
-        modes: x.modes[bank],
-    }
-}
+impl KeptByBank for Each {
+    ghost kept = { each };
 
-// A precharge counts unless the other kind came later.
-#[tactic(auto, unfolding(bank::specs::Values::outweighed))]
-fn unless_later(x: Once, other: Once) -> Found
-    ensures { result ≡ found_as (x.seen && not (outweighed x.seen other.seen x.at other.at)) x.at no_modes }
-{
-    Found {
-        seen: x.seen & !(x.seen & other.seen & (x.at < other.at)),
-        at: x.at,
-        modes: NO_MODES,
+    #[tactic(auto, unfolding(crate::proofs::Kept::kept_opened))]
+    fn latest_to(&self, bank: u8) -> Option<Found> {
+        let bank = usize::from(bank);
+        if 7 < bank || !self.seen[bank] {
+            return None;
+        }
+        Some(Found {
+            at: self.at[bank],
+            modes: UNNOTED,
+        })
     }
 }
 
-#[tactic(auto, using(crate::proofs::Kept::first_unless), unfolding(bank::specs::Values::each))]
-fn of_pre(pre: Each, prea: Once, bank: usize) -> Found
-    ensures { answer_of result ≡ get_elem? (cond (outweighed (get_or pre.seen bank false) prea.seen (get_or pre.at bank 0) prea.at) [] (each pre bank)) 0 }
-{
-    unless_later(each_at(pre, bank), prea)
+impl KeptByBank for NotedEach {
+    ghost kept = { noted_each };
+
+    #[tactic(auto, unfolding(crate::proofs::Kept::kept_opened))]
+    fn latest_to(&self, bank: u8) -> Option<Found> {
+        let bank = usize::from(bank);
+        if 7 < bank || !self.seen[bank] {
+            return None;
+        }
+        Some(Found {
+            at: self.at[bank],
+            modes: self.modes[bank],
+        })
+    }
 }
 
-#[tactic(auto, using(crate::proofs::Kept::first_unless), unfolding(bank::specs::Values::once))]
-fn of_prea(pre: Each, prea: Once, bank: usize) -> Found
-    ensures { answer_of result ≡ get_elem? (cond (outweighed prea.seen (get_or pre.seen bank false) prea.at (get_or pre.at bank 0)) [] (once prea)) 0 }
+// A precharge counts unless one of the other kind came later.
+#[tactic(auto, unfolding(crate::specs::Parts::answer_of, crate::specs::Parts::unless_later))]
+fn unless_later(precharge: Option<Found>, other: Option<Found>) -> Option<Found>
+    ensures { answer_of result ≡ unless_later (answer_of precharge) (answer_of other) }
 {
-    unless_later(prea, each_at(pre, bank))
+    match (precharge, other) {
+        (Some(x), Some(later)) if x.at < later.at => None,
+        _ => precharge,
+    }
 }
 
 #[tactic(auto, using(crate::proofs::Kept::fourth_kept))]
-fn of_four(x: Four) -> Found
-    ensures { answer_of result ≡ get_elem? (four x) 3 }
+fn fourth(x: &Four) -> Option<Found>
+    ensures { answer_of result ≡ get_elem? (four x.now) 3 }
 {
-    Found {
-        seen: 4 <= x.count,
+    (4 <= x.count).then_some(Found {
         at: x.at[3],
-        modes: NO_MODES,
-    }
+        modes: UNNOTED,
+    })
 }
 
-#[tactic(auto, using(crate::proofs::Kept::first_once, crate::proofs::Kept::first_kept), unfolding(crate::proofs::Kept::opened))]
-pub fn look(share: Share, ask: Ask, bank: usize) -> Found
-    ensures { answer_of result ≡ look_in (share_of share).history (asked_for ask bank) }
+#[tactic(auto, using(crate::proofs::Kept::first_unless), unfolding(crate::proofs::Kept::opened))]
+pub fn look(share: &Share, ask: Ask, bank: u8) -> Option<Found>
+    ensures { answer_of result ≡ look_in (share_of share.now).history (asked_for ask bank) }
 {
+    let (latest, banks, bus, moves) = (&share.latest, &share.banks, &share.bus, &share.moves);
     match ask {
-        Ask::Mrw => of_once(share.latest.mrw),
-        Ask::Mrr => of_once(share.latest.mrr),
-        Ask::Refab => of_once(share.latest.refab),
-        Ask::Refpb => of_once(share.latest.refpb),
-        Ask::RefpbTo => of_each(share.banks.refpb, bank),
-        Ask::PreTo => of_pre(share.banks.pre, share.latest.prea, bank),
-        Ask::PreaTo => of_prea(share.banks.pre, share.latest.prea, bank),
-        Ask::ActTo => of_each(share.banks.act, bank),
-        Ask::FourthLast => of_four(share.four),
-        Ask::Rd => of_once(share.bus.rd),
-        Ask::Wr => of_noted(share.bus.wr),
-        Ask::RdOrMrr => of_noted(share.bus.turn),
-        Ask::RdTo => of_each(share.banks.rd, bank),
-        Ask::RdaTo => of_each(share.banks.rda, bank),
-        Ask::WrTo => of_noted_each(share.banks.wr, bank),
-        Ask::WraTo => of_noted_each(share.banks.wra, bank),
-        Ask::Fall => of_once(share.moves.fall),
-        Ask::PowerExit => of_once(share.moves.power_exit),
-        Ask::SelfExit => of_once(share.moves.self_exit),
+        Ask::Mrw => latest.mrw.latest(),
+        Ask::Mrr => latest.mrr.latest(),
+        Ask::Refab => latest.refab.latest(),
+        Ask::Refpb => latest.refpb.latest(),
+        Ask::RefpbTo => banks.refpb.latest_to(bank),
+        Ask::PreTo => unless_later(banks.pre.latest_to(bank), latest.prea.latest()),
+        Ask::PreaTo => unless_later(latest.prea.latest(), banks.pre.latest_to(bank)),
+        Ask::ActTo => banks.act.latest_to(bank),
+        Ask::FourthLast => fourth(&share.four),
+        Ask::Rd => bus.rd.latest(),
+        Ask::Wr => bus.wr.latest(),
+        Ask::RdOrMrr => bus.turn.latest(),
+        Ask::RdTo => banks.rd.latest_to(bank),
+        Ask::RdaTo => banks.rda.latest_to(bank),
+        Ask::WrTo => banks.wr.latest_to(bank),
+        Ask::WraTo => banks.wra.latest_to(bank),
+        Ask::Fall => moves.fall.latest(),
+        Ask::PowerExit => moves.power_exit.latest(),
+        Ask::SelfExit => moves.self_exit.latest(),
     }
 }

@@ -1,15 +1,7 @@
-// What an entry permits, and the latest of what those of several banks do.
-ghost use Rattle.std.specs.Prelude.{◌≡◌, cond, ◌<◌, ◌^◌, eqb};
-ghost use Rattle.rules.specs.Folds.{permitted_by};
-ghost use Rattle.rules.specs.Lent.{look_in};
-ghost use Rattle.card.specs.Values.{modes_of};
-ghost use Rattle.bank.specs.Values.{share_of};
-ghost use Rattle.bounds.specs.declared.delays.Lag.TheVariants.{Plain};
-ghost use Rattle.bounds.specs.Parts.{delay_in, permitted_after, sources_of, span_of, answer_of, asked_for};
+// What an entry that was found permits.
+ghost use Rattle.std.specs.Prelude.{◌≡◌, ◌+◌, ◌<◌, ◌^◌};
 
-use crate::answers::{Ask, Found, look};
-use crate::spans::Span;
-use bank::Share;
+use crate::answers::Found;
 use card::Modes;
 
 // What the mode registers as at the entry make of a delay: nothing; WL is added; RL is added and WL taken off; WL and nWR are added, n(tWR), which it holds,
@@ -22,79 +14,64 @@ pub enum Lag {
     Recovered(u32),
 }
 
-#[tactic(auto, unfolding(crate::specs::Parts::delay_in, card::specs::Values::modes_of))]
-fn delay_by(lag: Lag, clocks: u64, modes: Modes) -> u64
-    requires { clocks < 2 ^ 40 }
-    ensures { (result ≡ delay_in lag clocks (modes_of modes)) × (result < 2 ^ 41) }
-{
-    match lag {
-        Lag::Plain => clocks,
-        Lag::Written => {
-            let x = card::latency_of(modes.mr2);
-            x.wl as u64 + clocks
-        }
-        Lag::Turned => {
-            let x = card::latency_of(modes.mr2);
-            let sum = x.rl as u64 + clocks;
-            let wl = x.wl as u64;
-            if sum < wl {
-                return 0;
-            }
-            sum - wl
-        }
-        Lag::Recovered(twr) => {
-            let x = card::latency_of(modes.mr2);
-            x.wl as u64 + card::nwr_of(modes, twr) as u64 + clocks
+// So many clocks behind an entry, and what the lag makes of them.
+#[derive(Clone, Copy)]
+pub struct Delay {
+    pub lag: Lag,
+    pub clocks: u64,
+    ghost small: { clocks < 2 ^ 40 },
+}
+
+impl From<u32> for Delay {
+    ghost use Rattle.bounds.specs.declared.delays.Lag.TheVariants.{Plain};
+
+    ghost from_gives = { λ clocks delay. (delay.lag ≡ Plain) × (delay.clocks ≡ clocks) };
+
+    fn from(clocks: u32) -> Self {
+        Delay {
+            lag: Lag::Plain,
+            clocks: u64::from(clocks),
         }
     }
 }
 
-#[tactic(auto, unfolding(crate::specs::Parts::permitted_after, crate::specs::Parts::answer_of))]
-pub fn permits(found: Found, lag: Lag, clocks: u64) -> u64
-    requires { clocks < 2 ^ 40 }
-    ensures { (result ≡ permitted_after lag clocks (answer_of found)) × (result < 2 ^ 42) }
-{
-    if !found.seen {
-        return 0;
+impl Delay {
+    ghost use Rattle.card.specs.Values.{modes_of};
+    ghost use Rattle.bounds.specs.Parts.{delay_in, permitted_after, answer_of};
+
+    // Of both numbers of clocks together.
+    pub fn new(lag: Lag, clocks: u32, more: u32) -> Self
+        ensures { (result.lag ≡ lag) × (result.clocks ≡ clocks + more) }
+    {
+        Delay {
+            lag,
+            clocks: u64::from(clocks) + u64::from(more),
+        }
     }
-    found.at as u64 + delay_by(lag, clocks, found.modes)
-}
 
-fn at_bank(share: Share, ask: Ask, bank: usize, but: u16, lag: Lag, clocks: u64) -> u64
-    requires { clocks < 2 ^ 40 }
-    ensures { result ≡ cond (eqb bank but) 0 (permitted_after lag clocks (look_in (share_of share).history (asked_for ask bank))) }
-{
-    if bank == but as usize {
-        return 0;
+    // The clocks behind an entry with these mode registers.
+    #[tactic(auto, unfolding(crate::specs::Parts::delay_in, card::specs::Values::modes_of))]
+    fn clocks_under(self, modes: Modes) -> u64
+        ensures { (result ≡ delay_in self.lag self.clocks (modes_of modes)) × (result < 2 ^ 41) }
+    {
+        let latency = card::latency_of(modes.mr2);
+        let (rl, wl) = (u64::from(latency.rl), u64::from(latency.wl));
+        match self.lag {
+            Lag::Plain => self.clocks,
+            Lag::Written => wl + self.clocks,
+            Lag::Turned => (rl + self.clocks).saturating_sub(wl),
+            Lag::Recovered(twr) => wl + u64::from(card::nwr_of(modes, twr)) + self.clocks,
+        }
     }
-    permits(look(share, ask, bank), lag, clocks)
-}
 
-// The first cycle that the entries found for these banks permit; 0 where there are none.
-pub fn since(share: Share, ask: Ask, span: Span, lag: Lag, clocks: u64) -> u64
-    requires { clocks < 2 ^ 40 }
-    ensures { result ≡ permitted_by (look_in (share_of share).history) (sources_of (span_of span) ask lag clocks) }
-{
-    let first = span.first as usize;
-    let count = span.count as usize;
-    let mut best: u64 = 0;
-    let mut k: usize = 0;
-    while k < count {
-        best = card::greater(best, at_bank(share, ask, first + k, span.but, lag, clocks));
-        k += 1;
+    // The first cycle that the entry permits; 0 where there is none.
+    #[tactic(auto, unfolding(crate::specs::Parts::permitted_after, crate::specs::Parts::answer_of))]
+    pub fn after(self, found: Option<Found>) -> u64
+        ensures { (result ≡ permitted_after self.lag self.clocks (answer_of found)) × (result < 2 ^ 42) }
+    {
+        match found {
+            Some(entry) => u64::from(entry.at) + self.clocks_under(entry.modes),
+            None => 0,
+        }
     }
-    best
-}
-
-// The same of a delay that does not go by the mode registers.
-pub fn plain(share: Share, ask: Ask, span: Span, clocks: u32) -> u64
-    ensures { result ≡ permitted_by (look_in (share_of share).history) (sources_of (span_of span) ask Plain clocks) }
-{
-    since(share, ask, span, Lag::Plain, clocks as u64)
-}
-
-pub fn wide(clocks: u32) -> u64
-    ensures { (result ≡ clocks) × (result < 2 ^ 32) }
-{
-    clocks as u64
 }

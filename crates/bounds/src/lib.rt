@@ -3,17 +3,19 @@
 
 mod across;
 mod answers;
+mod banks;
 mod delays;
 mod folds;
+mod kinds;
 mod moves;
-mod spans;
+mod offer;
 mod table;
 
 pub use folds::{first_broken, first_cycle};
 
-// The lowest rule that is broken, with its first permitted cycle.
-#[derive(Clone, Copy)]
-pub enum Broken {
-    Nothing,
-    Rule { rule: u8, cycle: u64 },
+// The lowest rule that is broken, and its first permitted cycle.
+#[derive(Clone, Copy, PartialEq, Eq)]
+pub struct Broken {
+    pub rule: u8,
+    pub cycle: u64,
 }

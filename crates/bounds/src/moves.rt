@@ -9,20 +9,12 @@ use pins::Move;
 pub fn falls(moved: Move) -> bool
     ensures { result ≡ is_fall (moved_of moved) }
 {
-    match moved {
-        Move::Stays => false,
-        Move::Falls(_) => true,
-        Move::Rises(_) => false,
-    }
+    matches!(moved, Move::Falls(_))
 }
 
 #[tactic(auto, unfolding(rules::specs::Levels::is_rise, pins::specs::Values::moved_of))]
 pub fn rises(moved: Move) -> bool
     ensures { result ≡ is_rise (moved_of moved) }
 {
-    match moved {
-        Move::Stays => false,
-        Move::Falls(_) => false,
-        Move::Rises(_) => true,
-    }
+    matches!(moved, Move::Rises(_))
 }

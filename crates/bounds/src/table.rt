@@ -1,238 +1,194 @@
-// The first cycles that the rules permit, for a command, with its move of clock-enable, that comes to a record. A rule that does not speak of them asks
-// for no bank: 0.
+// The first cycles that the rules permit an offer, several of one function in their order. A rule that does not speak of it asks for no bank: 0.
 #![tactic(auto, using(crate::proofs::Ruled::by_rule), unfolding(crate::proofs::Ruled::opened))]
 
 ghost use Rattle.std.specs.Prelude.{◌≡◌, [], ◌∷◌};
-ghost use Rattle.rules.specs.Levels.{stays};
 ghost use Rattle.pins.specs.Values.{moved_of};
-ghost use Rattle.bounds.specs.Parts.{bounds_of, bound_of};
+ghost use Rattle.bounds.specs.Parts.{bounds_of, still_of, moving_of};
 
 use crate::across::across;
 use crate::answers::Ask;
-use crate::delays::{Lag, plain, since, wide};
-use crate::{moves, spans};
-use bank::{Bus, Share};
-use card::{Delays, greater};
-use pins::{Command, Level, Move};
+use crate::banks::{self, Banks};
+use crate::delays::{Delay, Lag};
+use crate::kinds::{
+    is_act, is_active, is_column, is_not_nop, is_reading, is_writing, waits_for_any, waits_for_own,
+};
+use crate::moves;
+use crate::offer::Offer;
+use bank::Bus;
+use pins::Level;
 
-// The numbers of the kinds.
-const NOP: u8 = 0;
+impl Offer<'_> {
+    // Rules 1, 2 and 3.
+    fn all_banks(&self) -> [u64; 3]
+        ensures { result ≡ still_of self.now 1 ∷ still_of self.now 2 ∷ still_of self.now 3 ∷ [] }
+    {
+        let busy = self.own_if(is_not_nop(self.command));
+        [
+            self.after(Ask::Mrw, busy, self.delays.tmrw.into()),
+            self.after(Ask::Mrr, busy, self.delays.tmrr.into()),
+            self.after(Ask::Refab, busy, self.delays.trfcab.into()),
+        ]
+    }
 
-const MRW: u8 = 1;
+    // Rule 4.
+    fn after_refpb(&self) -> u64
+        ensures { result ≡ still_of self.now 4 }
+    {
+        let any = self.own_if(waits_for_any(self.command));
+        let own = self.own_if(waits_for_own(self.command));
+        self.after(Ask::Refpb, any, self.delays.trfcpb.into())
+            .max(self.after(Ask::RefpbTo, own, self.delays.trfcpb.into()))
+    }
 
-const MRR: u8 = 2;
+    // Rules 5 and 6.
+    fn after_precharge(&self) -> [u64; 2]
+        ensures { result ≡ still_of self.now 5 ∷ still_of self.now 6 ∷ [] }
+    {
+        let idle = banks::idle(self.command, self.share.counter);
+        [
+            self.after(Ask::PreTo, idle, self.delays.trppb.into()),
+            self.after(Ask::PreaTo, idle, self.delays.trpab.into()),
+        ]
+    }
 
-const REFPB: u8 = 3;
+    // Rules 7, 8 and 9.
+    fn after_act(&self) -> [u64; 3]
+        ensures { result ≡ still_of self.now 7 ∷ still_of self.now 8 ∷ still_of self.now 9 ∷ [] }
+    {
+        let column = self.own_if(is_column(self.command));
+        let precharged = banks::precharged(self.command);
+        let idle = banks::idle(self.command, self.share.counter);
+        [
+            self.after(Ask::ActTo, column, self.delays.trcd.into()),
+            self.after(Ask::ActTo, precharged, self.delays.tras.into()),
+            self.after(Ask::ActTo, idle, self.delays.trc.into()),
+        ]
+    }
 
-const REFAB: u8 = 4;
+    // Rule 10.
+    fn other_banks(&self) -> u64
+        ensures { result ≡ still_of self.now 10 }
+    {
+        let others = Banks::AllBut(self.bank());
+        let active = is_active(self.command).then_some(others);
+        let act = is_act(self.command).then_some(others);
+        self.after(Ask::ActTo, active, self.delays.trrd.into())
+            .max(self.after(Ask::RefpbTo, act, self.delays.trrd.into()))
+    }
 
-const ACT: u8 = 5;
+    // Rule 11.
+    fn four_before(&self) -> u64
+        ensures { result ≡ still_of self.now 11 }
+    {
+        let active = self.own_if(is_active(self.command));
+        self.after(Ask::FourthLast, active, self.delays.tfaw.into())
+    }
 
-const RD: u8 = 6;
+    // Rule 12.
+    fn bursts(&self) -> u64
+        ensures { result ≡ still_of self.now 12 }
+    {
+        let reading = self.own_if(is_reading(self.command));
+        let writing = self.own_if(is_writing(self.command));
+        self.after(Ask::Rd, reading, 4.into())
+            .max(self.after(Ask::Wr, writing, 4.into()))
+    }
 
-const WR: u8 = 7;
+    // Rules 13 and 14.
+    fn turns(&self) -> [u64; 2]
+        ensures { result ≡ still_of self.now 13 ∷ still_of self.now 14 ∷ [] }
+    {
+        let writing = self.own_if(is_writing(self.command));
+        let reading = self.own_if(is_reading(self.command));
+        let after_read = Delay::new(Lag::Turned, self.delays.tdqsck, 5);
+        let after_write = Delay::new(Lag::Written, 5, self.delays.twtr);
+        [
+            self.after(Ask::RdOrMrr, writing, after_read),
+            self.after(Ask::Wr, reading, after_write),
+        ]
+    }
 
-const PRE: u8 = 8;
+    // Rules 15 and 16.
+    fn after_rd(&self) -> [u64; 2]
+        ensures { result ≡ still_of self.now 15 ∷ still_of self.now 16 ∷ [] }
+    {
+        let precharged = banks::precharged(self.command);
+        let idle = banks::idle(self.command, self.share.counter);
+        let least = self.delays.trtp.max(4);
+        let closed = Delay::new(Lag::Plain, least, self.delays.trppb);
+        [
+            self.after(Ask::RdTo, precharged, least.into()),
+            self.after(Ask::RdaTo, idle, closed),
+        ]
+    }
 
-const PREA: u8 = 9;
+    // Rules 17 and 18.
+    fn after_wr(&self) -> [u64; 2]
+        ensures { result ≡ still_of self.now 17 ∷ still_of self.now 18 ∷ [] }
+    {
+        let precharged = banks::precharged(self.command);
+        let idle = banks::idle(self.command, self.share.counter);
+        let recovered = Delay::new(Lag::Written, 5, self.delays.twr);
+        let closed = Delay::new(Lag::Recovered(self.delays.twr), 5, self.delays.trppb);
+        [
+            self.after(Ask::WrTo, precharged, recovered),
+            self.after(Ask::WraTo, idle, closed),
+        ]
+    }
 
-// Rules 1, 2 and 3.
-fn all_banks(share: Share, d: Delays, command: Command) -> [u64; 3]
-    ensures { result ≡ bound_of share d command stays 1 ∷ bound_of share d command stays 2 ∷ bound_of share d command stays 3 ∷ [] }
-{
-    let busy = spans::own_if(NOP != spans::kind_of(command), command, share.counter);
-    [
-        plain(share, Ask::Mrw, busy, d.tmrw),
-        plain(share, Ask::Mrr, busy, d.tmrr),
-        plain(share, Ask::Refab, busy, d.trfcab),
-    ]
-}
+    // Rule 21: a rise from the latest fall, a fall from the latest rise, which is the later of the two exits.
+    fn between_moves(&self) -> u64
+        ensures { result ≡ moving_of self.now 21 }
+    {
+        let rising = self.own_if(moves::rises(self.moved));
+        let falling = self.own_if(moves::falls(self.moved));
+        self.after(Ask::Fall, rising, self.delays.tcke.into())
+            .max(self.after(Ask::PowerExit, falling, self.delays.tcke.into()))
+            .max(self.after(Ask::SelfExit, falling, self.delays.tcke.into()))
+    }
 
-// Rule 4.
-fn after_refpb(share: Share, d: Delays, command: Command) -> u64
-    ensures { result ≡ bound_of share d command stays 4 }
-{
-    let kind = spans::kind_of(command);
-    let any = spans::own_if(
-        (REFPB == kind) | (REFAB == kind) | (MRW == kind) | (PREA == kind),
-        command,
-        share.counter,
-    );
-    let own = spans::own_if((ACT == kind) | (PRE == kind), command, share.counter);
-    greater(
-        plain(share, Ask::Refpb, any, d.trfcpb),
-        plain(share, Ask::RefpbTo, own, d.trfcpb),
-    )
-}
+    // Rules 22 and 24.
+    fn after_exit(&self) -> [u64; 2]
+        ensures { result ≡ still_of self.now 22 ∷ still_of self.now 24 ∷ [] }
+    {
+        let busy = self.own_if(is_not_nop(self.command));
+        [
+            self.after(Ask::PowerExit, busy, self.delays.txp.into()),
+            self.after(Ask::SelfExit, busy, self.delays.txsr.into()),
+        ]
+    }
 
-// Rules 5 and 6.
-fn after_precharge(share: Share, d: Delays, command: Command) -> [u64; 2]
-    ensures { result ≡ bound_of share d command stays 5 ∷ bound_of share d command stays 6 ∷ [] }
-{
-    let idle = spans::idle(command, share.counter);
-    [
-        plain(share, Ask::PreTo, idle, d.trppb),
-        plain(share, Ask::PreaTo, idle, d.trpab),
-    ]
-}
+    // Rule 23.
+    fn in_self_refresh(&self) -> u64
+        ensures { result ≡ moving_of self.now 23 }
+    {
+        let leaving = self.own_if(pins::rises_from(Level::SelfRefresh, self.moved));
+        self.after(Ask::Fall, leaving, self.delays.tckesr.into())
+    }
 
-// Rules 7, 8 and 9.
-fn after_act(share: Share, d: Delays, command: Command) -> [u64; 3]
-    ensures { result ≡ bound_of share d command stays 7 ∷ bound_of share d command stays 8 ∷ bound_of share d command stays 9 ∷ [] }
-{
-    let kind = spans::kind_of(command);
-    let column = spans::own_if((RD == kind) | (WR == kind), command, share.counter);
-    let named = spans::named(command);
-    let idle = spans::idle(command, share.counter);
-    [
-        plain(share, Ask::ActTo, column, d.trcd),
-        plain(share, Ask::ActTo, named, d.tras),
-        plain(share, Ask::ActTo, idle, d.trc),
-    ]
-}
-
-// Rule 10.
-fn other_banks(share: Share, d: Delays, command: Command) -> u64
-    ensures { result ≡ bound_of share d command stays 10 }
-{
-    let kind = spans::kind_of(command);
-    let active = spans::others_if((ACT == kind) | (REFPB == kind), command, share.counter);
-    let act = spans::others_if(ACT == kind, command, share.counter);
-    greater(
-        plain(share, Ask::ActTo, active, d.trrd),
-        plain(share, Ask::RefpbTo, act, d.trrd),
-    )
-}
-
-// Rule 11.
-fn four_before(share: Share, d: Delays, command: Command) -> u64
-    ensures { result ≡ bound_of share d command stays 11 }
-{
-    let kind = spans::kind_of(command);
-    let active = spans::own_if((ACT == kind) | (REFPB == kind), command, share.counter);
-    plain(share, Ask::FourthLast, active, d.tfaw)
-}
-
-// Rule 12.
-fn bursts(share: Share, d: Delays, command: Command) -> u64
-    ensures { result ≡ bound_of share d command stays 12 }
-{
-    let kind = spans::kind_of(command);
-    let reading = spans::own_if((RD == kind) | (MRR == kind), command, share.counter);
-    let writing = spans::own_if(WR == kind, command, share.counter);
-    greater(
-        plain(share, Ask::Rd, reading, 4),
-        plain(share, Ask::Wr, writing, 4),
-    )
-}
-
-// Rules 13 and 14.
-fn turns(share: Share, d: Delays, command: Command) -> [u64; 2]
-    ensures { result ≡ bound_of share d command stays 13 ∷ bound_of share d command stays 14 ∷ [] }
-{
-    let kind = spans::kind_of(command);
-    let writing = spans::own_if(WR == kind, command, share.counter);
-    let reading = spans::own_if((RD == kind) | (MRR == kind), command, share.counter);
-    [
-        since(
-            share,
-            Ask::RdOrMrr,
-            writing,
-            Lag::Turned,
-            wide(d.tdqsck) + 5,
-        ),
-        since(share, Ask::Wr, reading, Lag::Written, 5 + wide(d.twtr)),
-    ]
-}
-
-// Rules 15 and 16.
-fn after_rd(share: Share, d: Delays, command: Command) -> [u64; 2]
-    ensures { result ≡ bound_of share d command stays 15 ∷ bound_of share d command stays 16 ∷ [] }
-{
-    let named = spans::named(command);
-    let idle = spans::idle(command, share.counter);
-    let least = greater(4, wide(d.trtp));
-    [
-        since(share, Ask::RdTo, named, Lag::Plain, least),
-        since(share, Ask::RdaTo, idle, Lag::Plain, least + wide(d.trppb)),
-    ]
-}
-
-// Rules 17 and 18.
-fn after_wr(share: Share, d: Delays, command: Command) -> [u64; 2]
-    ensures { result ≡ bound_of share d command stays 17 ∷ bound_of share d command stays 18 ∷ [] }
-{
-    let named = spans::named(command);
-    let idle = spans::idle(command, share.counter);
-    [
-        since(share, Ask::WrTo, named, Lag::Written, 5 + wide(d.twr)),
-        since(
-            share,
-            Ask::WraTo,
-            idle,
-            Lag::Recovered(d.twr),
-            5 + wide(d.trppb),
-        ),
-    ]
-}
-
-// Rule 21: a rise from the latest fall, a fall from the latest rise, which is the later of the two exits.
-fn between_moves(share: Share, d: Delays, command: Command, moved: Move) -> u64
-    ensures { result ≡ bound_of share d command (moved_of moved) 21 }
-{
-    let rising = spans::own_if(moves::rises(moved), command, share.counter);
-    let falling = spans::own_if(moves::falls(moved), command, share.counter);
-    greater(
-        plain(share, Ask::Fall, rising, d.tcke),
-        greater(
-            plain(share, Ask::PowerExit, falling, d.tcke),
-            plain(share, Ask::SelfExit, falling, d.tcke),
-        ),
-    )
-}
-
-// Rules 22 and 24.
-fn after_exit(share: Share, d: Delays, command: Command) -> [u64; 2]
-    ensures { result ≡ bound_of share d command stays 22 ∷ bound_of share d command stays 24 ∷ [] }
-{
-    let busy = spans::own_if(NOP != spans::kind_of(command), command, share.counter);
-    [
-        plain(share, Ask::PowerExit, busy, d.txp),
-        plain(share, Ask::SelfExit, busy, d.txsr),
-    ]
-}
-
-// Rule 23.
-fn in_self_refresh(share: Share, d: Delays, command: Command, moved: Move) -> u64
-    ensures { result ≡ bound_of share d command (moved_of moved) 23 }
-{
-    let leaving = spans::own_if(
-        pins::rises_from(Level::SelfRefresh, moved),
-        command,
-        share.counter,
-    );
-    plain(share, Ask::Fall, leaving, d.tckesr)
-}
-
-pub fn bounds(share: Share, theirs: Bus, d: Delays, command: Command, moved: Move) -> [u64; 25]
-    ensures { result ≡ bounds_of share theirs d command (moved_of moved) }
-{
-    let a = all_banks(share, d, command);
-    let p = after_precharge(share, d, command);
-    let c = after_act(share, d, command);
-    let t = turns(share, d, command);
-    let r = after_rd(share, d, command);
-    let w = after_wr(share, d, command);
-    let four = after_refpb(share, d, command);
-    let ten = other_banks(share, d, command);
-    let eleven = four_before(share, d, command);
-    let twelve = bursts(share, d, command);
-    let x = after_exit(share, d, command);
-    let moves = between_moves(share, d, command, moved);
-    let rest = in_self_refresh(share, d, command, moved);
-    let other = across(theirs, d, command);
-    [
-        a[0], a[1], a[2], four, p[0], p[1], c[0], c[1], c[2], ten, eleven, twelve, t[0], t[1],
-        r[0], r[1], w[0], w[1], moves, x[0], rest, x[1], other[0], other[1], other[2],
-    ]
+    // Of all rules, the other part's bus being `theirs`.
+    #[tactic(auto, using(crate::proofs::Ruled::by_number))]
+    pub fn bounds(&self, theirs: &Bus) -> [u64; 25]
+        ensures { result ≡ bounds_of self.now.share.now theirs.now self.now.delays.now self.now.command (moved_of self.now.moved) }
+    {
+        let [rule_1, rule_2, rule_3] = self.all_banks();
+        let rule_4 = self.after_refpb();
+        let [rule_5, rule_6] = self.after_precharge();
+        let [rule_7, rule_8, rule_9] = self.after_act();
+        let rule_10 = self.other_banks();
+        let rule_11 = self.four_before();
+        let rule_12 = self.bursts();
+        let [rule_13, rule_14] = self.turns();
+        let [rule_15, rule_16] = self.after_rd();
+        let [rule_17, rule_18] = self.after_wr();
+        let rule_21 = self.between_moves();
+        let [rule_22, rule_24] = self.after_exit();
+        let rule_23 = self.in_self_refresh();
+        let [rule_25, rule_26, rule_27] = across(theirs, self.delays, self.command);
+        [
+            rule_1, rule_2, rule_3, rule_4, rule_5, rule_6, rule_7, rule_8, rule_9, rule_10,
+            rule_11, rule_12, rule_13, rule_14, rule_15, rule_16, rule_17, rule_18, rule_21,
+            rule_22, rule_23, rule_24, rule_25, rule_26, rule_27,
+        ]
+    }
 }

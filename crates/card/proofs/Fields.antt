@@ -20,8 +20,10 @@ use Rattle.rules.proofs.Onward.{onward, at_each}
 use Rattle.rules.proofs.Tests.{eq_cases}
 use Rattle.rules.proofs.Rounding.{within_both}
 use Rattle.card.specs.Values.{timing, timing_in, mr1_if, card_of}
-use Rattle.card.specs.Reading.{number_for, good, put, read_refusal, number_of, rule_of, unless_refused, answer, read_of, blank_card}
+use Rattle.card.specs.Reading.{number_for, good, put, read_refusal, unread_by, answer_by, read_of, blank_card}
 use Rattle.card.specs.declared.Card.{Card}
+use Rattle.card.specs.declared.Unread.TheVariants.{Value}
+use Rattle.std.specs.Prelude.{Ok, Err}
 use Rattle.card.proofs.Lengths.{is_within}
 
 -- a card's numbers, whether it sleeps or is paired, its starting MR1, and its timings by their place
@@ -229,7 +231,7 @@ good_field card fs f h = ⊎_elim
 pub read_field : (card : Card) (b : Bool) (last : ℕ) (fs : List form.Field) (f : form.Field) → Holds card fs
     → (form.of_card f.tag && form.may_follow b last f.tag) ≡ true → form.length_good f.tag (length f.value) ≡ true
     → read_of card b last f.tag f.value
-    ≡ cond (form.field_good fs f) (answer 0 0 (put card f.tag (number_for f.tag f.value) (form.timing_of f.value))) (answer 4 0 card)
+    ≡ cond (form.field_good fs f) (Ok (put card f.tag (number_for f.tag f.value) (form.timing_of f.value))) (Err Value)
 unfolding read_of
 read_field card b last fs f h tag size = go (form.field_good fs f) (good_field card fs f h)
   where
@@ -237,6 +239,6 @@ read_field card b last fs f h tag size = go (form.field_good fs f) (good_field c
     next = put card f.tag (number_for f.tag f.value) (form.timing_of f.value)
 
     go : (x : Bool) → good card.sleeps card.period.0 f.tag (number_for f.tag f.value) (form.timing_of f.value) ≡ x
-        → (let y = read_refusal card b last f.tag f.value in answer (number_of y) (rule_of y) (unless_refused y card next)) ≡ cond x (answer 0 0 next) (answer 4 0 card)
-    go true e = unfold read_refusal first_of or_else unless number_of rule_of unless_refused in rw (tag, size, e)
-    go false e = unfold read_refusal first_of or_else unless refusal number_of rule_of unless_refused in rw (tag, size, e)
+        → answer_by (read_refusal card b last f.tag f.value) next ≡ cond x (Ok next) (Err Value)
+    go true e = unfold read_refusal first_of or_else unless answer_by in rw (tag, size, e)
+    go false e = unfold read_refusal first_of or_else unless refusal answer_by unread_by in rw (tag, size, e)

@@ -1,43 +1,37 @@
 -- The group that the code finds for a tag, in the rules' table; and the tests of a tag by it, each one computed test over all bytes.
-use Prim.Native.Nat.{ℕ, ◌+◌, ◌<◌}
+use Prim.Native.Nat.{ℕ, ◌<◌}
 use mathlib.Core.Path.{◌≡◌, refl}
-use mathlib.Core.Bool.{cond, not, ◌&&◌}
+use mathlib.Core.Bool.{Bool, false, ◌&&◌}
+use Rattle.std.specs.Prelude.{Option, Some, None, MatchOption, is_some, find}
+use Rattle.std.specs.Option.{option_map_or}
 use mathlib.Core.List.{List, [], ◌∷◌, map}
-use native.Mathlib.Numerals.{add-one}
 use lib.Dec.{leb, eqb}
-use lib.ListN.{length, get_or, drop}
-use lib.Seq.{drop-cons}
 use Rattle.rules.specs.Form as form
 use Rattle.rules.proofs.Onward.{onward, alike, by_bytes}
-use Rattle.card.specs.Tags.{group_of, no_group, group_in, group_at}
+use Rattle.card.specs.Tags.{group_of, group_in, group_at}
 use Rattle.card.specs.declared.tags.Group.{Group}
 
 -- ---- in the code's table
-unfoldable pub found_in : List Group → ℕ → Group
-found_in [] t = no_group
-found_in (g ∷ gs) t = cond (leb g.0 t && leb t g.1) g (found_in gs t)
-
-pub found_is : (gs : List form.Group) (t : ℕ) → found_in (map group_of gs) t ≡ group_in gs t
-unfolding found_in group_in group_of form.in_group
+pub found_is : (gs : List form.Group) (t : ℕ) → find (λ (g : Group). leb g.0 t && leb t g.1) (map group_of gs) ≡ group_in gs t
+unfolding group_in group_of form.in_group
 found_is [] t = refl
 found_is (g ∷ gs) t = rw (found_is gs t)
 
--- among the groups from place i on
-pub found_from : (gs : List Group) (t i : ℕ) → i < length gs
-    → found_in (drop i gs) t ≡ cond (leb (get_or gs i no_group).0 t && leb t (get_or gs i no_group).1) (get_or gs i no_group) (found_in (drop (i + 1) gs) t)
-unfolding found_in
-found_from gs t i h = rw (add-one, drop-cons gs i no_group h)
+-- what `is_some_and` answers
+pub some_and : {A : Type 0} {Q : A → Type 0} (test : A → Bool) (o : Option A) (r : Bool) → MatchOption o (r ≡ false) Q → ((x : A) → Q x → r ≡ test x) → r ≡ option_map_or test o false
+some_and test None r h g = h
+some_and test (Some x) r h g = g x h
 
 -- ---- the tests
 module _ (t : ℕ) (h : t < 256) where
-  pub of_card_by : not (eqb (group_at t).1 0) ≡ form.of_card t
+  pub of_card_by : is_some (group_at t) ≡ form.of_card t
   unfolding onward alike group_at group_in group_of form.of_card form.in_groups form.in_group form.groups form.◌up_to◌
-  of_card_by = by_bytes (λ k. not (eqb (group_at k).1 0)) form.of_card refl t h
+  of_card_by = by_bytes (λ k. is_some (group_at k)) form.of_card refl t h
 
-  pub ends_by : (not (eqb t 0) && eqb t (group_at t).1) ≡ form.ends_group form.groups t
+  pub ends_by : option_map_or (λ (g : Group). eqb t g.1) (group_at t) false ≡ form.ends_group form.groups t
   unfolding onward alike group_at group_in group_of form.ends_group form.in_group form.groups form.◌up_to◌
-  ends_by = by_bytes (λ k. not (eqb k 0) && eqb k (group_at k).1) (form.ends_group form.groups) refl t h
+  ends_by = by_bytes (λ k. option_map_or (λ (g : Group). eqb k g.1) (group_at k) false) (form.ends_group form.groups) refl t h
 
-  pub begins_by : (not (eqb t 0) && eqb t (group_at t).0) ≡ form.begins_group form.groups t
+  pub begins_by : option_map_or (λ (g : Group). eqb t g.0) (group_at t) false ≡ form.begins_group form.groups t
   unfolding onward alike group_at group_in group_of form.begins_group form.in_group form.groups form.◌up_to◌
-  begins_by = by_bytes (λ k. not (eqb k 0) && eqb k (group_at k).0) (form.begins_group form.groups) refl t h
+  begins_by = by_bytes (λ k. option_map_or (λ (g : Group). eqb k g.0) (group_at k) false) (form.begins_group form.groups) refl t h

@@ -84,6 +84,9 @@ as_listed t l h =
     either g true q e = rw (← eqb-true (sizes_of t).0 l q) g.0
     either g false q e = rw (← eqb-true (sizes_of t).1 l e) g.1
 
+pub by_size : (t l : ℕ) → t < 256 → length_good t l ≡ is_size t l
+by_size t l h = sym (as_listed t l h)
+
 -- tags of which p holds have lengths up to b
 at_most : (p : ℕ → Bool) (b t l : ℕ) → all (λ x. all (λ s. cond (p x.tag) (leb s b) true) x.sizes) lengths ≡ true → length_good t l ≡ true → p t ≡ true → l ≤ b
 unfolding length_good

@@ -3,11 +3,12 @@ use Prim.Native.Nat.{ℕ, ◌+◌, ◌*◌, ◌^◌, ◌≤◌, ◌<◌}
 use mathlib.Core.Path.{◌≡◌, refl}
 use mathlib.Core.Bool.{Bool, true, false, not, ◌&&◌, ◌||◌}
 use mathlib.Core.List.{List}
-use native.Mathlib.Nat.{zero-add, mul-le-mul}
+use mathlib.Core.Logic.{⊎_elim}
+use native.Mathlib.Nat.{zero-add, eq-or-lt_of_le}
 use native.Mathlib.Numerals.{add-one}
 use native.Mathlib.Omega.{arith}
 use lib.Dec.{leb}
-use lib.ListN.{length, get_or, drop, drop_of_length-le}
+use lib.ListN.{length, get_or, drop, drop_of_length-le, get_or-eq_default}
 use lib.Seq.{drop-cons}
 use lib.Pow.{pow-add, pow_mono}
 use borrow.Author.Tests.{leb-true, ltb-true, le-leb}
@@ -32,12 +33,17 @@ one_more i x b h l =
 pub bytes_fit : (w i x : ℕ) → i ≤ w → x < 2 ^ (8 * i) → x < 2 ^ (8 * w)
 bytes_fit w i x h l = let m : 2 ^ (8 * i) ≤ 2 ^ (8 * w) = pow_mono {j = 8 * w} (omega arith) in omega arith
 
-pub sixteen_fit : (x k : ℕ) → x < 2 ^ 32 → k ≤ 16 → x * k < 2 ^ 37
-sixteen_fit x k h l = let m : x * k ≤ 2 ^ 32 * 16 = mul-le-mul {n₂ = 2 ^ 32} (omega arith) l in omega arith
-
 pub last_byte : (v : List ℕ) → length v ≡ 5 → get_or v 4 0 ≡ number (drop 4 v)
 unfolding number number_from
 last_byte v h = rw (drop-cons v 4 0 (omega arith), drop_of_length-le v {i = 5} (omega arith), zero-add)
+
+-- the byte behind four, 0 where there is none
+pub fifth_byte : (v : List ℕ) → length v ≤ 5 → get_or v 4 0 ≡ number (drop 4 v)
+unfolding number number_from
+fifth_byte v h = ⊎_elim
+    (λ (e : length v ≡ 5). last_byte v e)
+    (λ (lt : length v < 5). rw (get_or-eq_default v 0 {n = 4} (omega arith), drop_of_length-le v {i = 4} (omega arith)))
+    (eq-or-lt_of_le h)
 
 -- an MR2 in range is a byte
 pub mr2_byte : (p x : ℕ) → mr2_good p x ≡ true → x < 256

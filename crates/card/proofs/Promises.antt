@@ -4,9 +4,12 @@ use Rattle.rules.specs.Units as paper
 use Rattle.rules.proofs.Determined.{Promise, Determined, determined, fact_of}
 use Rattle.card.specs.Values.{clocks_of}
 use Rattle.rules.specs.Checks.{Refusal, refusal}
-use Rattle.card.specs.Tags.{wrong_of}
+use Rattle.card.specs.Tags.{number_of, wrong_of}
 use Rattle.card.specs.declared.Delays.{Delays}
+use Rattle.card.specs.declared.Misplaced.{Misplaced}
+use Rattle.card.specs.declared.Misplaced.TheVariants.{Unknown, Passed, Early}
 use Rattle.card.specs.declared.Wrong.{Wrong}
+use native.Mathlib.Omega.{arith}
 use Rattle.card.proofs.Told.{read_is}
 use Rattle.card.specs.contracts.ranges.in_range as in_range
 use Rattle.card.specs.contracts.registers.latency_of as latency_of
@@ -16,13 +19,17 @@ use Rattle.card.specs.contracts.registers.nwr_of as nwr_of
 use Rattle.card.specs.contracts.timings.delays_at as delays_at
 use Rattle.card.specs.contracts.timings.interval_at as interval_at
 use Rattle.card.specs.contracts.heat.mr4_good as mr4_good
-use Rattle.card.specs.contracts.units.greater as greater
 use Rattle.card.specs.contracts.tags.may_come as may_come
 use Rattle.card.specs.contracts.tags.wrong_tag as wrong_tag
 use Rattle.card.specs.contracts.benched.bench as bench
 use Rattle.card.specs.contracts.values.blank as blank
 use Rattle.card.specs.contracts.values.length_good as length_good
 use Rattle.card.specs.contracts.values.read_value as read_value
+use Rattle.card.specs.contracts.units.PicosecondsFromU32.from as picoseconds
+use Rattle.card.specs.contracts.units.ClocksFromU8.from as clocks
+use Rattle.card.specs.contracts.CardDefault.default as default
+use Rattle.card.specs.contracts.FemtosecondsDefault.default as femtoseconds
+use Rattle.card.proofs.Defaults.{default_is}
 
 abbrev in_range_says : Promise in_range.ended
 in_range_says w = in_range.clauses w.𝓛 w.𝓜.mem w.𝓡.run
@@ -67,12 +74,6 @@ interval_at_says w = interval_at.clauses w.𝓛 w.𝓜.mem w.𝓡.run
 
 pub interval_at_determined : Determined interval_at.ended interval_at_says
 interval_at_determined = determined interval_at.ended interval_at_says (λ κs a r e. fact_of _) (λ κs a r r' ws ws' p p'. (p ∙ sym p', refl))
-
-abbrev greater_says : Promise greater.ended
-greater_says w = greater.clauses w.𝓛 w.𝓜.mem w.𝓡.run
-
-pub greater_determined : Determined greater.ended greater_says
-greater_determined = determined greater.ended greater_says (λ κs a r e. fact_of _) (λ κs a r r' ws ws' p p'. (p ∙ sym p', refl))
 
 -- the delays with these numbers
 delays_in : paper.Delays → Delays
@@ -144,12 +145,52 @@ pub may_come_determined : Determined may_come.ended may_come_says
 may_come_determined = determined may_come.ended may_come_says (λ κs a r e. fact_of _) (λ κs a r r' ws ws' p p'. (p ∙ sym p', refl))
 
 -- what is wrong with a tag, with the same two numbers, is one
+number_tells : (x y : Misplaced) → number_of x ≡ number_of y → x ≡ y
+unfolding number_of
+number_tells Unknown Unknown q = refl
+number_tells Unknown Passed q = absurd (omega (arith, q))
+number_tells Unknown Early q = absurd (omega (arith, q))
+number_tells Passed Unknown q = absurd (omega (arith, q))
+number_tells Passed Passed q = refl
+number_tells Passed Early q = absurd (omega (arith, q))
+number_tells Early Unknown q = absurd (omega (arith, q))
+number_tells Early Passed q = absurd (omega (arith, q))
+number_tells Early Early q = refl
+
 wrong_tells : (v w : Wrong) → wrong_of v ≡ wrong_of w → v ≡ w
 unfolding wrong_of refusal
-wrong_tells v w q = λ i. record { number = ap (λ (x : Refusal). x.number) q i; expected = ap (λ (x : Refusal). x.rule) q i }
+wrong_tells v w q = λ i. record { why = number_tells v.why w.why (ap (λ (x : Refusal). x.number) q) i; expected = ap (λ (x : Refusal). x.rule) q i }
 
 abbrev wrong_tag_says : Promise wrong_tag.ended
 wrong_tag_says w = wrong_tag.clauses w.𝓛 w.𝓜.mem w.𝓡.run
 
 pub wrong_tag_determined : Determined wrong_tag.ended wrong_tag_says
 wrong_tag_determined = determined wrong_tag.ended wrong_tag_says (λ κs a r e. fact_of _) (λ κs a r r' ws ws' p p'. (wrong_tells r r' (p ∙ sym p'), refl))
+
+abbrev picoseconds_says : Promise picoseconds.ended
+picoseconds_says w = picoseconds.clauses w.𝓛 w.𝓜.mem w.𝓡.run
+
+pub picoseconds_determined : Determined picoseconds.ended picoseconds_says
+picoseconds_determined =
+    determined picoseconds.ended picoseconds_says (λ κs a r e. fact_of _) (λ κs a r r' ws ws' p p'. (λ i. record { 0 = (p.0 ∙ sym p'.0) i }, refl))
+
+abbrev clocks_says : Promise clocks.ended
+clocks_says w = clocks.clauses w.𝓛 w.𝓜.mem w.𝓡.run
+
+pub clocks_determined : Determined clocks.ended clocks_says
+clocks_determined =
+    determined clocks.ended clocks_says (λ κs a r e. fact_of _) (λ κs a r r' ws ws' p p'. (λ i. record { 0 = (p ∙ sym p') i }, refl))
+
+abbrev default_says : Promise default.ended
+default_says w = default.clauses w.𝓛 w.𝓜.mem w.𝓡.run
+
+pub default_determined : Determined default.ended default_says
+default_determined =
+    determined default.ended default_says (λ κs a r e. fact_of _) (λ κs a r r' ws ws' p p'. (default_is r p ∙ sym (default_is r' p'), refl))
+
+abbrev femtoseconds_says : Promise femtoseconds.ended
+femtoseconds_says w = femtoseconds.clauses w.𝓛 w.𝓜.mem w.𝓡.run
+
+pub femtoseconds_determined : Determined femtoseconds.ended femtoseconds_says
+femtoseconds_determined =
+    determined femtoseconds.ended femtoseconds_says (λ κs a r e. fact_of _) (λ κs a r r' ws ws' p p'. (λ i. record { 0 = (p ∙ sym p') i }, refl))

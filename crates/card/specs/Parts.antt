@@ -1,12 +1,11 @@
 -- The timings of a card by their places in its columns, as the code goes through them: raised by a number of picoseconds, which is 0 at any code of MR4 but the
 -- hottest.
-use Rattle.std.specs.Prelude.{ℕ, ◌^◌, ◌<◌, ◌≡◌, cond, List, ltb, get_or}
+use Rattle.std.specs.Prelude.{ℕ, ◌^◌, ◌<◌, ◌≡◌, cond, ltb}
 use Rattle.rules.specs.Card as paper
-use Rattle.rules.specs.Units as units
 use Rattle.rules.specs.Heat.{is_hot, longer}
 use Rattle.card.specs.declared.Card.{Card}
 use Rattle.card.specs.declared.units.Timing.{Timing}
-use Rattle.card.specs.Values.{timing_in, card_of, clipped}
+use Rattle.card.specs.Values.{timing_in}
 
 -- what is added with this value in force
 unfoldable pub raise_at : Card → (mr4 : ℕ) → ℕ
@@ -39,7 +38,3 @@ pub record Timed (card : Card) (ps k : ℕ) (r : Timing) : Type 0 where
   pub floor_is : r.floor.0 ≡ (raised_in card ps k).floor
   pub short : r.duration.0 < 2 ^ 33
   pub low : r.floor.0 < 256
-
--- n(x) of the first k timings
-unfoldable pub Counted : Card → (ps : ℕ) → ℕ → List ℕ → Type 0
-Counted card ps k l = (i : ℕ) → i < k → get_or l i 0 ≡ clipped (units.n (card_of card) (raised_in card ps i))

@@ -1,5 +1,5 @@
 -- What the next field of a card makes of it: refused 17, 18 or 19 (tag), 3 (length), 4 (range), or the card with the value in it.
-use Rattle.std.specs.Prelude.{ℕ, ◌-◌, ◌≡◌, Bool, false, cond, not, ◌&&◌, ◌||◌, List, [], ◌∷◌, leb, eqb, length, set, replicate}
+use Rattle.std.specs.Prelude.{ℕ, ◌-◌, ◌≡◌, Bool, false, cond, not, ◌&&◌, ◌||◌, List, [], ◌∷◌, leb, eqb, length, set, replicate, Result, Ok, Err}
 use Rattle.std.proofs.Math.Option.{Option, none, some}
 use Rattle.rules.specs.Card as paper
 use Rattle.rules.specs.Registers.{mr2_good}
@@ -8,14 +8,17 @@ use Rattle.rules.specs.Folds.{first_of}
 use Rattle.rules.specs.Checks.{Refusal, refusal, unless}
 use Rattle.rules.specs.Form.{may_follow, of_card, wrong_after, number, period_of, timing_of, length_good}
 use Rattle.card.specs.declared.Card.{Card}
-use Rattle.card.specs.declared.Read.{Read}
-use Rattle.card.specs.declared.values.Sizes.{Sizes}
+use Rattle.card.specs.declared.Misplaced.{Misplaced}
+use Rattle.card.specs.declared.Misplaced.TheVariants.{Unknown, Passed, Early}
+use Rattle.card.specs.declared.Unread.{Unread}
+use Rattle.card.specs.declared.Unread.TheVariants.{Tag, Length, Value}
+use Rattle.card.specs.Tags.{wrong_of}
 
--- the listed lengths of a tag; 0 where there is no such tag
-abbrev pub sizes : ℕ → ℕ → Sizes
-sizes k l = record { 0 = k; 1 = l }
+-- the lengths that a tag may have, twice the same where there is one; 0 where there is no such tag
+abbrev pub sizes : ℕ → ℕ → ℕ × ℕ
+sizes k l = (k, l)
 
-unfoldable pub sizes_of : ℕ → Sizes
+unfoldable pub sizes_of : ℕ → ℕ × ℕ
 sizes_of t =
     cond (eqb t 1) (sizes 4 8)
     (cond (eqb t 4 || eqb t 26 || eqb t 33) (sizes 4 4)
@@ -61,42 +64,42 @@ read_refusal c b last t v =
     (first_of (unless (length_good t (length v)) 3 ∷ unless (good c.sleeps c.period.0 t (number_for t v) (timing_of v)) 4 ∷ []))
     (some (wrong_after b last c.sleeps t))
 
--- the numbers that the code's two stand for; 0 is none
-unfoldable pub refusal_of : (number rule : ℕ) → Option Refusal
-refusal_of k q = cond (eqb k 0) none (some (refusal k q 0))
+-- the refusal that an answer is, if it is one
+unfoldable pub refusal_of : Result Card Unread → Option Refusal
+refusal_of (Ok c) = none
+refusal_of (Err (Tag w)) = some (wrong_of w)
+refusal_of (Err Length) = some (refusal 3 0 0)
+refusal_of (Err Value) = some (refusal 4 0 0)
 
--- and back
-unfoldable pub number_of : Option Refusal → ℕ
-number_of none = 0
-number_of (some x) = x.number
-
-unfoldable pub rule_of : Option Refusal → ℕ
-rule_of none = 0
-rule_of (some x) = x.rule
+-- the card behind an answer, on a refusal the old one
+unfoldable pub card_then : Card → Result Card Unread → Card
+card_then old (Ok c) = c
+card_then old (Err e) = old
 
 -- the old one, where it is refused
 unfoldable pub unless_refused : {A : Type 0} → Option Refusal → A → A → A
 unless_refused none old new = new
 unless_refused (some x) old new = old
 
--- this refusal, or none, is told, with rule 0 then, and the card is the one with the value in it, or on a refusal the old one
-pub record ReadAs (c : Card) (b : Bool) (last t : ℕ) (v : List ℕ) (r : Read) : Type 0 where
-  pub told : refusal_of r.refusal r.rule ≡ read_refusal c b last t v
-  pub rule : r.rule ≡ rule_of (read_refusal c b last t v)
-  pub card : r.card ≡ unless_refused (read_refusal c b last t v) c (put c t (number_for t v) (timing_of v))
+-- this refusal, or none, is told, and the card is the one with the value in it, or on a refusal the old one
+pub record ReadAs (c : Card) (b : Bool) (last t : ℕ) (v : List ℕ) (r : Result Card Unread) : Type 0 where
+  pub told : refusal_of r ≡ read_refusal c b last t v
+  pub card : card_then c r ≡ unless_refused (read_refusal c b last t v) c (put c t (number_for t v) (timing_of v))
 
-abbrev pub answer : (number rule : ℕ) → Card → Read
-answer k q c = record { refusal = k; rule = q; card = c }
+-- the answer that a refusal is
+unfoldable pub misplaced_by : ℕ → Misplaced
+misplaced_by k = cond (eqb k 17) Unknown (cond (eqb k 18) Passed Early)
+
+unfoldable pub unread_by : Refusal → Unread
+unread_by x = cond (eqb x.number 3) Length (cond (eqb x.number 4) Value (Tag (record { why = misplaced_by x.number; expected = x.rule })))
+
+unfoldable pub answer_by : Option Refusal → (new : Card) → Result Card Unread
+answer_by none new = Ok new
+answer_by (some x) new = Err (unread_by x)
 
 -- the answer so told (proofs/Told, `read_is`)
-unfoldable pub read_of : Card → (begun : Bool) → (last tag : ℕ) → List ℕ → Read
-read_of c b last t v =
-    let x = read_refusal c b last t v in
-    answer (number_of x) (rule_of x) (unless_refused x c (put c t (number_for t v) (timing_of v)))
-
--- a value of its tag's length, by its numbers
-unfoldable pub taken : Card → (tag x : ℕ) → paper.Timing → Read
-taken c t x y = cond (good c.sleeps c.period.0 t x y) (answer 0 0 (put c t x y)) (answer 4 0 c)
+unfoldable pub read_of : Card → (begun : Bool) → (last tag : ℕ) → List ℕ → Result Card Unread
+read_of c b last t v = answer_by (read_refusal c b last t v) (put c t (number_for t v) (timing_of v))
 
 unfoldable pub blank_card : Card
 blank_card = record {

@@ -1,21 +1,19 @@
 -- The rows of the code's tables, as the rules' rows have them.
-use Rattle.std.specs.Prelude.{ℕ, ◌+◌, ◌*◌, ◌/◌, ◌%◌, Bool, false, leb}
+use Rattle.std.specs.Prelude.{ℕ, ◌+◌, ◌*◌, ◌/◌, ◌%◌, Bool, false, leb, Option, Some, None}
 use Rattle.rules.specs.Bits.{bits}
 use Rattle.rules.specs.Units.{femto}
 use Rattle.rules.specs.Registers as paper
 use Rattle.card.specs.declared.registers.Row.{Row}
-use Rattle.card.specs.declared.registers.Found.{Found}
-use Rattle.card.specs.declared.registers.Found.TheVariants.{At, Nothing}
 
 unfoldable pub row_of : paper.Latency → Row
 row_of x = record { 0 = x.code; 1 = x.least; 2 = x.rl; 3 = x.wl_a; 4 = x.wl_b }
 
 -- the row with this code
-unfoldable pub found_by : ℕ → Found
-found_by k = paper.at_code k (λ x. At (row_of x)) Nothing paper.latencies
+unfoldable pub found_by : ℕ → Option Row
+found_by k = paper.at_code k (λ x. Some (row_of x)) None paper.latencies
 
 -- the row that OP3-0 of this MR2 picks
-unfoldable pub found_at : ℕ → Found
+unfoldable pub found_at : ℕ → Option Row
 found_at v = found_by (bits v 0 4)
 
 -- OP3-0 of this MR2 is a code whose least period does not exceed this one

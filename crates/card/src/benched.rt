@@ -4,6 +4,7 @@ ghost use Rattle.card.specs.Bench.{bench_card};
 
 use crate::{Card, Femtoseconds};
 
+#[tactic(auto, unfolding(crate::specs::Bench::bench_card))]
 pub fn bench() -> Card
     ensures { result ≡ bench_card }
 {
@@ -17,11 +18,6 @@ pub fn bench() -> Card
             0, 0, 0, 0,
         ],
         floors: [3, 3, 3, 3, 2, 8, 4, 4, 4, 0, 0, 0, 4, 10, 0, 0, 0, 0],
-        sleeps: false,
-        programmed: false,
-        mr1: 0,
-        paired: false,
-        gap: 0,
-        raise: 0,
+        ..Card::default()
     }
 }

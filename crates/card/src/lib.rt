@@ -16,23 +16,23 @@ pub use ranges::in_range;
 pub use registers::{latency_of, mr2_good, mrw_value_good, nwr_of};
 pub use tags::{may_come, wrong_tag};
 pub use timings::{delays_at, interval_at};
-pub use units::greater;
 pub use values::{blank, length_good, read_value};
 
 #[derive(Clone, Copy)]
 pub struct Picoseconds(pub u64);
 
-#[derive(Clone, Copy)]
+#[derive(Clone, Copy, Default)]
 pub struct Femtoseconds(pub u64);
 
 #[derive(Clone, Copy)]
 pub struct Clocks(pub u64);
 
-// `durations` and `floors` are the two columns of tags 5 to 22: trcd, trppb, trpab, tras, trrd, tfaw, trtp, twr, twtr, tdqsck,
+// `durations` and `floors` are document 01's two columns, of tags 5 to 22: trcd, trppb, trpab, tras, trrd, tfaw, trtp, twr, twtr, tdqsck,
 // trfcab, trfcpb, tmrr, tmrw, tcke, txp, tckesr, txsr. `sleeps`: tags 19 to 22 are there. `programmed`: tag 23 is there; `mr1`: its
-// starting MR1. `paired`: tag 25 is there; `gap`: its clocks between
-// the two parts. `raise`: tag 26, what the hottest code of MR4 adds to the first five durations; 0 where the card has none.
-#[derive(Clone, Copy)]
+// starting MR1. `paired`: tag 25 is there; `gap`: its clocks between the two parts. `raise`: tag 26, what the hottest code of MR4 adds
+// to the first five durations; 0 where the card has none.
+// A flag beside its byte, and no Option: callers of `in_range` and `delays_at` may hand any values, also a byte whose flag is off.
+#[derive(Clone, Copy, Default)]
 pub struct Card {
     pub period: Femtoseconds,
     pub mr2: u8,
@@ -74,7 +74,8 @@ pub struct Delays {
 }
 
 // The mode registers that the delay rules go by. `programmed`: MR1 was written, or the card has one; else `mr1` is not looked at.
-#[derive(Clone, Copy)]
+// A flag beside its byte, and no Option: callers of `nwr_of`, and who lends a record of them, may hand any values.
+#[derive(Clone, Copy, PartialEq, Eq, Default)]
 pub struct Modes {
     pub mr2: u8,
     pub programmed: bool,
@@ -87,18 +88,25 @@ pub struct Latency {
     pub wl: u8,
 }
 
-// What refuses a tag: the number, and the tag that is expected there.
-#[derive(Clone, Copy)]
+// What is wrong with a tag: none of the card's or the trace's, one that was passed, or one that comes too early.
+#[derive(Clone, Copy, PartialEq, Eq)]
+pub enum Misplaced {
+    Unknown,
+    Passed,
+    Early,
+}
+
+// What refuses a tag, and the tag that is expected there.
+#[derive(Clone, Copy, PartialEq, Eq)]
 pub struct Wrong {
-    pub number: u8,
+    pub why: Misplaced,
     pub expected: u8,
 }
 
-// What a field makes of a card: 0 and the card with the value in it, or a refusal's number and the card as it was. `rule`: the tag that is expected, where the
-// field's own is refused; else 0.
-#[derive(Clone, Copy)]
-pub struct Read {
-    pub refusal: u8,
-    pub rule: u8,
-    pub card: Card,
+// What refuses a field of the card: its tag, its length, or its value, which is out of range.
+#[derive(Clone, Copy, PartialEq, Eq)]
+pub enum Unread {
+    Tag(Wrong),
+    Length,
+    Value,
 }

@@ -1,13 +1,14 @@
 // The card's tags and the order of a file's tags: which may come, and what is wrong with one that may not.
 ghost use Rattle.std.specs.Prelude.{◌≡◌};
 ghost use Rattle.rules.specs.Form as form;
-ghost use Rattle.card.specs.Tags.{group_at, wrong_of};
+ghost use Rattle.card.specs.Tags.{group_at, number_of, wrong_of};
 
-use crate::Wrong;
+use crate::{Misplaced, Wrong};
 
 // The card's tags come in groups, each whole: a group's first tag and its last.
+// A tag stays the file's byte, and no enum: which may come goes by order, and the place of a timing is its tag less 5.
 #[derive(Clone, Copy)]
-pub struct Group(u8, u8);
+struct Group(u8, u8);
 
 const GROUPS: [Group; 5] = [
     Group(1, 18),
@@ -17,95 +18,87 @@ const GROUPS: [Group; 5] = [
     Group(26, 26),
 ];
 
-// The group of a tag; from 0 to 0 where it is of none.
-fn group_of(tag: u8) -> Group
+fn group_of(tag: u8) -> Option<Group>
     ensures { result ≡ group_at tag }
 {
-    let groups = GROUPS;
-    let mut i: usize = 0;
-    while i < 5 {
-        let group = groups[i];
-        if (group.0 <= tag) & (tag <= group.1) {
-            return group;
-        }
-        i += 1;
-    }
-    Group(0, 0)
+    GROUPS
+        .iter()
+        .copied()
+        .find(|Group(first, last)| *first <= tag && tag <= *last)
 }
 
+#[tactic(auto, using(crate::proofs::Groups::of_card_by))]
 pub fn of_card(tag: u8) -> bool
     ensures { result ≡ form.of_card tag }
 {
-    let group = group_of(tag);
-    group.1 != 0
+    group_of(tag).is_some()
 }
 
+#[tactic(auto, unfolding(rules::specs::Form::of_trace, rules::specs::Form::of_entry))]
 fn of_trace(tag: u8) -> bool
     ensures { result ≡ form.of_trace tag }
 {
-    (tag == 32) | (tag == 34) | (tag == 33)
+    matches!(tag, 32 | 33 | 34)
 }
 
 fn ends_group(tag: u8) -> bool
     ensures { result ≡ form.ends_group form.groups tag }
 {
-    let group = group_of(tag);
-    (tag != 0) & (tag == group.1)
+    group_of(tag).is_some_and(|Group(_, last)| tag == last)
 }
 
 fn begins_group(tag: u8) -> bool
     ensures { result ≡ form.begins_group form.groups tag }
 {
-    let group = group_of(tag);
-    (tag != 0) & (tag == group.0)
+    group_of(tag).is_some_and(|Group(first, _)| tag == first)
 }
 
-// Whether this tag may come behind the tag of the card's newest field, 0 before the first; `begun`: an entry has come.
+// Whether this tag may come behind the tag of the card's newest field, 0 before the first as in the rules' `last_tag`; `begun`: an entry has come.
+// These go one by one, here and below: `may_come`, `wrong_tag` and `read_value` are public so.
+#[tactic(auto, unfolding(rules::specs::Form::may_follow))]
 pub fn may_come(begun: bool, last: u8, tag: u8) -> bool
     ensures { result ≡ form.may_follow begun last tag }
 {
     if ends_group(last) {
-        return of_trace(tag) | (!begun & ((last < tag) & begins_group(tag)));
+        of_trace(tag) || (!begun && last < tag && begins_group(tag))
+    } else {
+        u16::from(tag) == u16::from(last) + 1
     }
-    tag as u16 == last as u16 + 1
 }
 
-fn wrong_number(begun: bool, last: u8, tag: u8) -> u8
-    ensures { result ≡ form.wrong_number begun last tag }
+#[tactic(auto, unfolding(crate::specs::Tags::number_of, rules::specs::Form::wrong_number, rules::specs::Form::known, rules::specs::Form::passed_by))]
+fn misplaced(begun: bool, last: u8, tag: u8) -> Misplaced
+    ensures { number_of result ≡ form.wrong_number begun last tag }
 {
-    if of_card(tag) {
-        if begun | (tag <= last) {
-            return 18;
-        }
-        return 19;
+    if of_card(tag) && (begun || tag <= last) {
+        Misplaced::Passed
+    } else if of_card(tag) || of_trace(tag) {
+        Misplaced::Early
+    } else {
+        Misplaced::Unknown
     }
-    if of_trace(tag) {
-        return 19;
-    }
-    17
 }
 
+#[tactic(auto, unfolding(rules::specs::Form::expected_after, rules::specs::Form::in_group))]
 fn expected(last: u8, sleeps: bool, tag: u8) -> u8
     ensures { result ≡ form.expected_after last sleeps tag }
 {
     if !ends_group(last) {
-        if last < 32 {
-            return last + 1;
-        }
-        return 33;
+        last.saturating_add(1).min(33)
+    } else if matches!(tag, 19..=22) && !sleeps {
+        19
+    } else {
+        33
     }
-    if ((19 <= tag) & (tag <= 22)) & !sleeps {
-        return 19;
-    }
-    33
 }
 
 // What is wrong with a tag that may not come there; `sleeps`: tags 19 to 22 were read.
+#[tactic(auto, unfolding(rules::specs::Form::wrong_after, rules::specs::Checks::refusal, crate::specs::Tags::wrong_of))]
 pub fn wrong_tag(begun: bool, last: u8, sleeps: bool, tag: u8) -> Wrong
     ensures { wrong_of result ≡ form.wrong_after begun last sleeps tag }
 {
     Wrong {
-        number: wrong_number(begun, last, tag),
+        why: misplaced(begun, last, tag),
         expected: expected(last, sleeps, tag),
     }
 }

@@ -1,154 +1,114 @@
 // The delays of a card in clocks, by the temperature: n(x), tRC, I.
-ghost use Rattle.std.specs.Prelude.{◌≡◌, ◌+◌, ◌*◌, ◌≤◌, ◌<◌, ◌^◌};
+ghost use Rattle.std.specs.Prelude.{◌≡◌, ◌<◌};
 ghost use Rattle.rules.specs.Units as paper;
 ghost use Rattle.rules.specs.Heat.{hot_card, delays_at, interval_at};
 ghost use Rattle.card.specs.Values.{card_of, clipped, clocks_of, shortened};
-ghost use Rattle.card.specs.Parts.{raised_by, raised_in, raise_at, Counted, Timed};
+ghost use Rattle.card.specs.Parts.{raised_by, raised_in, raise_at, Timed};
 
 use crate::heat::{is_hot, quarters};
-use crate::units::{Timing, greater, least_clocks, whole_periods};
+use crate::units::Timing;
 use crate::{Card, Clocks, Delays, Femtoseconds, Picoseconds};
 
-fn picoseconds(x: u32) -> Picoseconds
-    ensures { (result.0 ≡ x) × (result.0 < 2 ^ 32) }
-{
-    Picoseconds(x as u64)
+// A card, and what is added to its first five durations: at any code of MR4 but the hottest that is nothing.
+#[derive(Clone, Copy)]
+struct Raised {
+    card: Card,
+    raise: u32,
 }
 
-fn clocks(x: u8) -> Clocks
-    ensures { (result.0 ≡ x) × (result.0 < 256) }
-{
-    Clocks(x as u64)
-}
-
-// The duration at this place, the first five longer by the raise.
-fn duration(card: Card, raise: u32, i: usize) -> Picoseconds
-    requires { i < 18 }
-    ensures { (result.0 ≡ (raised_in card raise i).duration) × (result.0 < 2 ^ 33) }
-{
-    let own = picoseconds(card.durations[i]);
-    if i < 5 {
-        return Picoseconds(own.0 + picoseconds(raise).0);
+impl Raised {
+    #[tactic(auto, unfolding(crate::specs::Parts::raise_at))]
+    fn at(card: Card, mr4: u8) -> Self
+        ensures card { result.card ≡ card }
+        ensures raise { result.raise ≡ raise_at card mr4 }
+    {
+        let raise = if is_hot(mr4) { card.raise } else { 0 };
+        Raised { card, raise }
     }
-    own
-}
 
-// The timing at this place of the two columns.
-fn timing(card: Card, raise: u32, i: usize) -> Timing
-    requires { i < 18 }
-    ensures { Timed card raise i result }
-{
-    Timing {
-        duration: duration(card, raise, i),
-        floor: clocks(card.floors[i]),
+    // The timing at this place of the two columns, the first five durations longer by the raise.
+    #[tactic(auto, unfolding(crate::specs::Parts::raised_in, crate::specs::Values::timing_in, rules::specs::Heat::longer))]
+    fn timing(self, i: usize) -> Timing
+        requires { i < 18 }
+        ensures { Timed self.card self.raise i result }
+    {
+        let raise = if i < 5 { self.raise } else { 0 };
+        Timing {
+            duration: Picoseconds(u64::from(self.card.durations[i]) + u64::from(raise)),
+            floor: Clocks::from(self.card.floors[i]),
+        }
     }
-}
 
-// The most that 32 bits hold stands for anything beyond.
-fn short(k: Clocks) -> u32
-    ensures { result ≡ clipped k.0 }
-{
-    if 4294967295 < k.0 {
-        return 4294967295;
+    // n(x)
+    #[tactic(auto, unfolding(rules::specs::Units::n, crate::specs::Values::card_of))]
+    fn clocks(self, i: usize) -> u32
+        requires { i < 18 }
+        ensures { result ≡ clipped (paper.n (card_of self.card) (raised_in self.card self.raise i)) }
+    {
+        self.timing(i).least_clocks(self.card.period).clipped()
     }
-    k.0 as u32
-}
 
-// n(x)
-fn timing_clocks(card: Card, raise: u32, i: usize) -> u32
-    requires { i < 18 }
-    ensures { result ≡ clipped (paper.n (card_of card) (raised_in card raise i)) }
-{
-    short(least_clocks(timing(card, raise, i), card.period))
-}
-
-fn all_clocks(card: Card, raise: u32) -> [u32; 18]
-    ensures { Counted card raise 18 result }
-{
-    let mut out = [0; 18];
-    let mut i: usize = 0;
-    while i < 18 {
-        out[i] = timing_clocks(card, raise, i);
-        i += 1;
+    // tRAS and tRPpb as one timing: both durations, each raised, and both floors summed.
+    #[tactic(auto, unfolding(rules::specs::Units::row_cycle, rules::specs::Heat::hot_card, rules::specs::Heat::longer, crate::specs::Values::timing_in, crate::specs::Values::card_of, crate::specs::Parts::raised_by, crate::specs::Parts::raised_in))]
+    fn joined_clocks(self) -> Clocks
+        ensures { result.0 ≡ paper.row_cycle (hot_card (card_of (raised_by self.raise self.card))) }
+    {
+        let ras = self.timing(3);
+        let rp = self.timing(1);
+        let both = Timing {
+            duration: Picoseconds(ras.duration.0 + rp.duration.0),
+            floor: Clocks(ras.floor.0 + rp.floor.0),
+        };
+        both.least_clocks(self.card.period)
     }
-    out
-}
 
-// tRAS and tRPpb as one timing: both durations, each raised, and both floors summed.
-fn joined_clocks(card: Card, raise: u32) -> Clocks
-    ensures { result.0 ≡ paper.row_cycle (hot_card (card_of (raised_by raise card))) }
-{
-    let ras = timing(card, raise, 3);
-    let rp = timing(card, raise, 1);
-    let both = Timing {
-        duration: Picoseconds(ras.duration.0 + rp.duration.0),
-        floor: Clocks(ras.floor.0 + rp.floor.0),
-    };
-    least_clocks(both, card.period)
-}
+    // tRC
+    fn row_cycle(self) -> u32
+        ensures { result ≡ clipped (paper.row_cycle (hot_card (card_of (raised_by self.raise self.card)))) }
+    {
+        self.joined_clocks().clipped()
+    }
 
-// tRC
-fn row_cycle(card: Card, raise: u32) -> u32
-    ensures { result ≡ clipped (paper.row_cycle (hot_card (card_of (raised_by raise card)))) }
-{
-    short(joined_clocks(card, raise))
-}
-
-// Those of a card whose hottest code adds this raise, at that code.
-fn hot_delays(card: Card, raise: u32) -> Delays
-    ensures { clocks_of result ≡ shortened (paper.delays_of (hot_card (card_of (raised_by raise card)))) }
-{
-    let n = all_clocks(card, raise);
-    let trc = row_cycle(card, raise);
-    Delays {
-        trcd: n[0],
-        trppb: n[1],
-        trpab: n[2],
-        tras: n[3],
-        trc: trc,
-        trrd: n[4],
-        tfaw: n[5],
-        trtp: n[6],
-        twr: n[7],
-        twtr: n[8],
-        tdqsck: n[9],
-        trfcab: n[10],
-        trfcpb: n[11],
-        tmrr: n[12],
-        tmrw: n[13],
-        tcke: n[14],
-        txp: n[15],
-        tckesr: n[16],
-        txsr: n[17],
-        gap: card.gap as u32,
+    fn delays(self) -> Delays
+        ensures { clocks_of result ≡ shortened (paper.delays_of (hot_card (card_of (raised_by self.raise self.card)))) }
+    {
+        Delays {
+            trcd: self.clocks(0),
+            trppb: self.clocks(1),
+            trpab: self.clocks(2),
+            tras: self.clocks(3),
+            trc: self.row_cycle(),
+            trrd: self.clocks(4),
+            tfaw: self.clocks(5),
+            trtp: self.clocks(6),
+            twr: self.clocks(7),
+            twtr: self.clocks(8),
+            tdqsck: self.clocks(9),
+            trfcab: self.clocks(10),
+            trfcpb: self.clocks(11),
+            tmrr: self.clocks(12),
+            tmrw: self.clocks(13),
+            tcke: self.clocks(14),
+            txp: self.clocks(15),
+            tckesr: self.clocks(16),
+            txsr: self.clocks(17),
+            gap: u32::from(self.card.gap),
+        }
     }
 }
 
-fn raise_at(card: Card, mr4: u8) -> u32
-    ensures { result ≡ raise_at card mr4 }
-{
-    if is_hot(mr4) { card.raise } else { 0 }
-}
-
-// The delays with this value of MR4 in force; at any code but the hottest they are raised by nothing.
+// The delays with this value of MR4 in force.
+#[tactic(auto, using(crate::proofs::Columns::delays_by))]
 pub fn delays_at(card: Card, mr4: u8) -> Delays
     ensures { clocks_of result ≡ shortened (delays_at (card_of card) mr4) }
 {
-    hot_delays(card, raise_at(card, mr4))
+    Raised::at(card, mr4).delays()
 }
 
-// A quarter of a picosecond is 250 femtoseconds.
-fn in_quarters(d: Picoseconds, k: u64) -> Femtoseconds
-    requires { (d.0 < 2 ^ 32) × (k ≤ 16) }
-    ensures { (result.0 ≡ 250 * (d.0 * k)) × (result.0 < 2 ^ 45) }
-{
-    Femtoseconds(250 * (d.0 * k))
-}
-
-// I: the factor goes in before the rounding.
+// I: the factor goes in before the rounding. A quarter of a picosecond is 250 femtoseconds.
 pub fn interval_at(card: Card, mr4: u8) -> u64
     ensures { result ≡ interval_at (card_of card) mr4 }
 {
-    let refi = in_quarters(picoseconds(card.trefi), quarters(mr4));
-    greater(1, whole_periods(refi, card.period).0)
+    let refi = Femtoseconds(250 * (u64::from(card.trefi) * quarters(mr4)));
+    refi.whole_periods(card.period).0.max(1)
 }

@@ -6,49 +6,21 @@ ghost use Rattle.card.specs.Reading as reading;
 
 use crate::ranges::value_good;
 use crate::tags::{may_come, of_card, wrong_tag};
-use crate::units::femtoseconds;
-use crate::{Card, Femtoseconds, Picoseconds, Read};
+use crate::{Card, Femtoseconds, Picoseconds, Unread};
 
-// The lengths that a tag may have: twice the same, where there is one.
-#[derive(Clone, Copy)]
-pub struct Sizes(usize, usize);
-
-// Those that are listed; 0 where there is no such tag.
-fn listed(tag: u8) -> Sizes
-    ensures { result ≡ reading.sizes_of tag }
-{
-    if tag == 1 {
-        return Sizes(4, 8);
-    }
-    if (tag == 4) | (tag == 26) | (tag == 33) {
-        return Sizes(4, 4);
-    }
-    if (tag == 2) | (tag == 23) | (tag == 25) {
-        return Sizes(1, 1);
-    }
-    if tag == 3 {
-        return Sizes(2, 2);
-    }
-    if ((5 <= tag) & (tag <= 22)) | (tag == 34) {
-        return Sizes(5, 5);
-    }
-    if tag == 32 {
-        return Sizes(7, 7);
-    }
-    Sizes(0, 0)
-}
-
+#[tactic(auto, using(std::proofs::lemmas::Bool::Decides::nat_tests, crate::proofs::Lengths::by_size), unfolding(crate::specs::Reading::sizes_of, rules::specs::Ranges::within))]
 pub fn length_good(tag: u8, size: usize) -> bool
     ensures { result ≡ form.length_good tag size }
 {
-    let sizes = listed(tag);
-    (0 < sizes.0) & ((sizes.0 == size) | (sizes.1 == size))
-}
-
-fn wide(x: u8) -> u64
-    ensures { (result ≡ x) × (result < 256) }
-{
-    x as u64
+    match tag {
+        1 => size == 4 || size == 8,
+        2 | 23 | 25 => size == 1,
+        3 => size == 2,
+        4 | 26 | 33 => size == 4,
+        5..=22 | 34 => size == 5,
+        32 => size == 7,
+        _ => false,
+    }
 }
 
 // Numbers are big-endian.
@@ -56,11 +28,9 @@ fn number(bytes: &[u8]) -> u64
     requires { length bytes.now ≤ 8 }
     ensures { (result ≡ form.number bytes.now) × (result < 2 ^ (8 * length bytes.now)) }
 {
-    let mut x: u64 = 0;
-    let mut i: usize = 0;
-    while i < bytes.len() {
-        x = 256 * x + wide(bytes[i]);
-        i += 1;
+    let mut x = 0;
+    for byte in bytes {
+        x = 256 * x + u64::from(*byte);
     }
     x
 }
@@ -69,146 +39,109 @@ fn number(bytes: &[u8]) -> u64
 fn first_four(value: &[u8]) -> u64
     ensures { result ≡ form.number (take 4 value.now) }
 {
-    if value.len() < 5 {
-        return number(value);
-    }
-    number(&value[..4])
+    number(&value[..value.len().min(4)])
 }
 
 // Eight bytes are femtoseconds, and four picoseconds.
+#[tactic(auto, using(crate::proofs::Lengths::period_length), unfolding(rules::specs::Form::period_of))]
 fn period_of(value: &[u8]) -> Femtoseconds
     requires { form.length_good 1 (length value.now) ≡ true }
     ensures { result.0 ≡ form.period_of value.now }
 {
     let x = number(value);
     if value.len() == 8 {
-        return Femtoseconds(x);
+        Femtoseconds(x)
+    } else {
+        Picoseconds(x).femtoseconds()
     }
-    femtoseconds(Picoseconds(x))
 }
 
-// The floor of a timing; 0 where the value is shorter.
+// The floor of a timing; of a shorter value the number of no bytes, 0.
+#[tactic(auto, using(crate::proofs::Numbers::fifth_byte))]
 fn fifth(value: &[u8]) -> u8
     requires { length value.now ≤ 5 }
     ensures { result ≡ form.number (drop 4 value.now) }
 {
-    if value.len() < 5 {
-        return 0;
-    }
-    value[4]
+    value.get(4).copied().unwrap_or(0)
 }
 
-fn put_timing(card: Card, tag: u8, x: u32, floor: u8) -> Card
+#[tactic(auto, unfolding(crate::specs::Reading::put, rules::specs::Ranges::within))]
+fn put_timing(mut card: Card, tag: u8, x: u32, floor: u8) -> Card
     requires { (5 ≤ tag) × (tag ≤ 22) }
     ensures { result ≡ reading.put card tag x (timing x floor) }
 {
-    let mut next = card;
-    let i = (tag - 5) as usize;
-    next.durations[i] = x;
-    next.floors[i] = floor;
-    next.sleeps = (tag == 19) | card.sleeps;
-    next
+    let i = usize::from(tag - 5);
+    card.durations[i] = x;
+    card.floors[i] = floor;
+    card.sleeps = card.sleeps || tag == 19;
+    card
 }
 
+#[tactic(auto, using(std::proofs::lemmas::Bool::Decides::nat_tests, crate::proofs::Lengths::a_timing, crate::proofs::Numbers::mr2_byte, crate::proofs::Numbers::start_byte, crate::proofs::Numbers::groups_short, crate::proofs::Numbers::trefi_short, crate::proofs::Numbers::raise_short, crate::proofs::Numbers::timing_short, crate::proofs::Numbers::gap_byte), unfolding(crate::specs::Reading::put, crate::specs::Reading::good, rules::specs::Ranges::within))]
 fn put(card: Card, tag: u8, x: u64, floor: u8) -> Card
     requires { (form.of_card tag ≡ true) × (reading.good card.sleeps card.period.0 tag x (timing x floor) ≡ true) }
     ensures { result ≡ reading.put card tag x (timing x floor) }
 {
-    let mut next = card;
-    if tag == 1 {
-        let period = Femtoseconds(x);
-        next.period = period;
-        return next;
-    }
-    if tag == 2 {
-        next.mr2 = x as u8;
-        return next;
-    }
-    if tag == 3 {
-        next.groups = x as u16;
-        return next;
-    }
-    if tag == 4 {
-        next.trefi = x as u32;
-        return next;
-    }
-    if tag == 23 {
-        next.programmed = true;
-        next.mr1 = x as u8;
-        return next;
-    }
-    if tag == 25 {
-        next.paired = true;
-        next.gap = x as u8;
-        return next;
-    }
-    if tag == 26 {
-        next.raise = x as u32;
-        return next;
-    }
-    put_timing(card, tag, x as u32, floor)
-}
-
-fn taken(card: Card, tag: u8, x: u64, floor: u8) -> Read
-    requires { form.of_card tag ≡ true }
-    ensures { result ≡ reading.taken card tag x (timing x floor) }
-{
-    if value_good(card.sleeps, card.period, tag, x, floor) {
-        let next = put(card, tag, x, floor);
-        return Read {
-            refusal: 0,
-            rule: 0,
-            card: next,
-        };
-    }
-    Read {
-        refusal: 4,
-        rule: 0,
-        card: card,
+    match tag {
+        1 => Card {
+            period: Femtoseconds(x),
+            ..card
+        },
+        2 => Card {
+            mr2: x as u8,
+            ..card
+        },
+        3 => Card {
+            groups: x as u16,
+            ..card
+        },
+        4 => Card {
+            trefi: x as u32,
+            ..card
+        },
+        23 => Card {
+            programmed: true,
+            mr1: x as u8,
+            ..card
+        },
+        25 => Card {
+            paired: true,
+            gap: x as u8,
+            ..card
+        },
+        26 => Card {
+            raise: x as u32,
+            ..card
+        },
+        _ => put_timing(card, tag, x as u32, floor),
     }
 }
 
 // The next field of a card, of which this much was read: behind the field with tag `last`, and if `begun` behind an entry.
-pub fn read_value(card: Card, begun: bool, last: u8, tag: u8, value: &[u8]) -> Read
+#[tactic(auto, using(crate::proofs::Lengths::card_length, crate::proofs::Told::bad_length_lem))]
+pub fn read_value(card: Card, begun: bool, last: u8, tag: u8, value: &[u8]) -> Result<Card, Unread>
     ensures { reading.ReadAs card begun last tag value.now result }
 {
-    if !(of_card(tag) & may_come(begun, last, tag)) {
-        let wrong = wrong_tag(begun, last, card.sleeps, tag);
-        return Read {
-            refusal: wrong.number,
-            rule: wrong.expected,
-            card: card,
-        };
+    if !(of_card(tag) && may_come(begun, last, tag)) {
+        return Err(Unread::Tag(wrong_tag(begun, last, card.sleeps, tag)));
     }
     if !length_good(tag, value.len()) {
-        return Read {
-            refusal: 3,
-            rule: 0,
-            card: card,
-        };
+        return Err(Unread::Length);
     }
-    if tag == 1 {
-        return taken(card, tag, period_of(value).0, 0);
+    let (x, floor) = if tag == 1 {
+        (period_of(value).0, 0)
+    } else {
+        (first_four(value), fifth(value))
+    };
+    if !value_good(card, tag, x) {
+        return Err(Unread::Value);
     }
-    taken(card, tag, first_four(value), fifth(value))
+    Ok(put(card, tag, x, floor))
 }
 
 // The card before its first field.
 pub fn blank() -> Card
     ensures { result ≡ reading.blank_card }
 {
-    Card {
-        period: Femtoseconds(0),
-        mr2: 0,
-        groups: 0,
-        trefi: 0,
-        durations: [0; 18],
-        floors: [0; 18],
-        sleeps: false,
-        programmed: false,
-        mr1: 0,
-        paired: false,
-        gap: 0,
-        raise: 0,
-    }
+    Card::default()
 }

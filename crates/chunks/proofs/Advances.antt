@@ -1,5 +1,6 @@
 -- A field that was taken: its front, and its line.
-use Rattle.std.proofs.Common.{◌≡◌, ℕ, ◌≤◌, Bool, true, false, cond, eqb, List, [], ◌∷◌, length, take, refl, ap, ◌∙◌, arith, eqb-true}
+use Rattle.std.specs.Prelude.{Some, Ok}
+use Rattle.std.proofs.Common.{◌≡◌, ℕ, ◌≤◌, Bool, true, false, cond, eqb, List, [], ◌∷◌, length, take, sym, refl, ap, ◌∙◌, eqb-true}
 use mathlib.Core.Option.{Option, none, some}
 use borrow.Author.Tests.{eqb-false}
 use Rattle.rules.specs.Checks.{Refusal}
@@ -10,25 +11,12 @@ use Rattle.ledger.specs.Values.{is_none}
 use Rattle.bank.specs.Values.{lent_of}
 use Rattle.chunks.specs.declared.State.{State}
 use Rattle.chunks.specs.declared.Verdict.{Verdict}
-use Rattle.chunks.specs.declared.fields.Move.{Move}
-use Rattle.chunks.specs.declared.fields.Move.TheVariants.{On, Wait, End}
-use Rattle.chunks.specs.declared.fields.Took.{Took}
-use Rattle.chunks.specs.declared.heads.Head.TheVariants.{Whole}
-use Rattle.chunks.specs.Took.{took_as, refused_here, refused_by, refused_tag, card_after, card_took, entry_after, entry_refused, entry_took, end_after, end_took, field_took, head_took, behind_took, read_in, head_at, took_of}
+use Rattle.chunks.specs.Took.{Move, On, End, Took, took_as, refused_here, refused_by, refused_tag, card_after, card_took, entry_after, entry_refused, entry_took, end_after, end_took, field_took, head_took, behind_took, read_in, head_at, took_of}
 use Rattle.chunks.specs.Heard.{field_line, head_line, line_of}
 use Rattle.chunks.specs.Parts.{field_in, head_as, NoneHere}
 use Rattle.chunks.proofs.Fronts.{Fronted, front}
 use Rattle.chunks.proofs.Entries.{refused_in, not_taken}
 use Rattle.chunks.proofs.Taking.{whole_took}
-
-pub wait_on : {A : Type 0} {n : ℕ} → Wait ≡ On n → A
-wait_on e = let z : ◌≡◌ {A = ℕ} 0 1 = cc in absurd (omega arith)
-
-pub end_on : {A : Type 0} {v : Verdict} {n : ℕ} → End v ≡ On n → A
-end_on e = let z : ◌≡◌ {A = ℕ} 0 1 = cc in absurd (omega arith)
-
-same_on : {m n : ℕ} → On m ≡ On n → m ≡ n
-same_on e = cc
 
 either_how : {A : Type 0} (b : Bool) (x y : Took) (m : Move) → (x.how ≡ m → A) → (y.how ≡ m → A) → (cond b x y).how ≡ m → A
 either_how true x y m f g e = f e
@@ -53,26 +41,26 @@ field_how st f m g h =
     (refused_how (read_refusal st.rec.card st.rec.last.seen st.tag f.tag f.value) (took_as (On (form.size_of f)) (card_after st f)) st m g h))
 
 field_on : (st : State) (f : form.Field) (n : ℕ) → (field_took st f).how ≡ On n → form.size_of f ≡ n
-field_on st f n = field_how st f (On n) same_on (λ v e. end_on e)
+field_on st f n = field_how st f (On n) (λ e. cc) (λ v e. absurd cc)
 
-head_on : (st : State) (h : form.Head) (n : ℕ) → (head_took st h).how ≡ On n → head_as h ≡ Whole n
+head_on : (st : State) (h : form.Head) (n : ℕ) → (head_took st h).how ≡ On n → head_as h ≡ Ok (Some n)
 unfolding head_took head_as refused_by refused_tag
 head_on st (form.whole f rest) n e = rw (field_on st f n e)
-head_on st form.cut n e = wait_on e
-head_on st (form.bad_tag x) n e = end_on e
-head_on st form.bad_length n e = end_on e
+head_on st form.cut n e = absurd cc
+head_on st (form.bad_tag x) n e = absurd cc
+head_on st form.bad_length n e = absurd cc
 
 pub behind_on : {A : Type 0} (st : State) (bs : List ℕ) (n : ℕ) → (behind_took st bs).how ≡ On n → A
 unfolding behind_took refused_by
-behind_on st [] n e = wait_on e
-behind_on st (b ∷ bs) n e = end_on e
+behind_on st [] n e = absurd cc
+behind_on st (b ∷ bs) n e = absurd cc
 
-took_on : (st : State) (bs : List ℕ) (n : ℕ) → (took_of st bs).how ≡ On n → (st.tag ≡ 33 → ⊥) × (head_as (head_at st bs) ≡ Whole n)
+took_on : (st : State) (bs : List ℕ) (n : ℕ) → (took_of st bs).how ≡ On n → (st.tag ≡ 33 → ⊥) × (head_as (head_at st bs) ≡ Ok (Some n))
 unfolding took_of
 took_on st bs n = go (eqb st.tag 33) refl
   where
     go : (b : Bool) → eqb st.tag 33 ≡ b → (cond b (behind_took st bs) (head_took st (head_at st bs))).how ≡ On n
-        → (st.tag ≡ 33 → ⊥) × (head_as (head_at st bs) ≡ Whole n)
+        → (st.tag ≡ 33 → ⊥) × (head_as (head_at st bs) ≡ Ok (Some n))
     go true l e = behind_on st bs n e
     go false l e = (eqb-false st.tag 33 l, head_on st (head_at st bs) n e)
 
@@ -90,8 +78,8 @@ taken_size st bs n e = let f = (on_field st bs n e).fronted in (f.least, f.long)
 -- ---- where no entry of pins that is taken stands there, it has no line
 refused_ends : {A : Type 0} (o : Option Refusal) (st : State) (x : Took) (n : ℕ) → is_none o ≡ false → (unless_refused st x o).how ≡ On n → A
 unfolding is_none refused_here
-refused_ends none st x n i e = absurd (let z : ◌≡◌ {A = ℕ} 0 1 = cc in omega arith)
-refused_ends (some r) st x n i e = end_on e
+refused_ends none st x n i e = absurd cc
+refused_ends (some r) st x n i e = absurd cc
 
 field_line_lem : (st : State) (f : form.Field) (n : ℕ) (b : Bool) → eqb f.tag 32 ≡ b → (f.tag ≡ 32 → is_none (entry_refused st f) ≡ false) → (field_took st f).how ≡ On n → field_line st f ≡ []
 unfolding field_line field_took entry_took form.of_entry
@@ -105,4 +93,4 @@ no_line st bs n gone e =
     let w = whole_took st bs o.in_time_lem n o.fronted in
     rw o.fronted.is
     (field_line_lem st (field_in (take n bs)) n _ refl
-    (λ t. refused_in st.rec (take n bs) (not_taken st bs n o.fronted t gone)) (ap (λ (x : Took). x.how) w ∙ e))
+    (λ t. refused_in st.rec (take n bs) (not_taken st bs n o.fronted t gone)) (ap (λ (x : Took). x.how) (sym w) ∙ e))

@@ -1,4 +1,5 @@
 -- The field of an entry of pins, and the front of some bytes that it is.
+use Rattle.std.specs.Prelude.{Some, None, is_some}
 use Rattle.std.proofs.Common.{◌≡◌, ℕ, ◌+◌, ◌-◌, ◌*◌, ◌≤◌, Bool, true, false, cond, ◌&&◌, eqb, leb, List, length, get_or, take, drop, sym, refl, ◌∙◌, arith, lit<, length-drop, length-take-le, take_all, get_or-take, drop-drop, le-ltb, eq-eqb, ne_eqb, eqb-true, le-leb}
 use Rattle.rules.specs.Ranges.{within}
 use Rattle.rules.specs.Form as form
@@ -6,6 +7,7 @@ use Rattle.rules.specs.Lent.{step_refusal}
 use Rattle.rules.proofs.Tests.{both_true}
 use Rattle.card.specs.Reading as reading
 use Rattle.card.proofs.Lengths.{as_listed}
+use Rattle.pins.specs.declared.Front.{Front}
 use Rattle.pins.specs.Fronts.{is_entry, front_as, front_of}
 use Rattle.pins.proofs.Fronts.{entry_room, front_take}
 use Rattle.ledger.specs.Values.{is_none}
@@ -18,26 +20,26 @@ use Rattle.chunks.specs.Parts.{field_in, NotTaken, NoneHere}
 use Rattle.chunks.proofs.Sizes.{entry_size}
 use Rattle.chunks.proofs.Fronts.{Fronted, head_is, front, come_as}
 
-not_so : {A : Type 0} → false ≡ true → A
-not_so e = absurd (let z : ◌≡◌ {A = ℕ} 0 1 = cc in omega arith)
-
 entry_length : form.length_good 32 7 ≡ true
 unfolding reading.sizes_of within
 entry_length = sym (as_listed 32 7 (lit< tt))
 
 -- ---- an entry's field stands at the start of some bytes
-front_whole : (x : Bool) (t p : ℕ) → (cond x (front_as true t p) (front_as false 0 0)).whole ≡ true → x ≡ true
-front_whole true t p e = refl
-front_whole false t p e = not_so e
+front_whole : (x : Bool) (f : Front) → is_some (cond x (Some f) None) ≡ true → x ≡ true
+front_whole true f e = refl
+front_whole false f e = e
 
-module _ (bs : List ℕ) (w : (front_of bs).whole ≡ true) where
+module _ (bs : List ℕ) (w : is_some (front_of bs) ≡ true) where
   whole : is_entry bs ≡ true
   unfolding front_of
-  whole = front_whole (is_entry bs) (form.number (take 4 (drop 3 bs))) (form.number (take 3 (drop 7 bs))) w
+  whole = front_whole (is_entry bs) (front_as (form.number (take 4 (drop 3 bs))) (form.number (take 3 (drop 7 bs)))) w
 
-  pub front_is : front_of bs ≡ front_as true (form.number (take 4 (drop 3 bs))) (form.number (take 3 (drop 7 bs)))
+  pub front_is : front_of bs ≡ Some (front_as (form.number (take 4 (drop 3 bs))) (form.number (take 3 (drop 7 bs))))
   unfolding front_of
   front_is = rw whole
+
+  pub room : 10 ≤ length bs
+  room = entry_room bs _ front_is
 
   starts : (get_or bs 0 0 ≡ 32) × (get_or bs 1 0 ≡ 0) × (get_or bs 2 0 ≡ 7)
   unfolding is_entry
@@ -56,14 +58,14 @@ module _ (bs : List ℕ) (w : (front_of bs).whole ≡ true) where
       front b fs bs 10
       (head_is b fs bs
       ∙ rw (
-        ne_eqb (length bs) 0 (λ z. omega (arith, entry_room bs w)),
+        ne_eqb (length bs) 0 (λ z. omega (arith, room)),
         starts.0,
         comes,
-        le-ltb (length bs) 3 (omega (arith, entry_room bs w)),
+        le-ltb (length bs) 3 (omega (arith, room)),
         starts.1,
         starts.2,
         entry_length,
-        le-ltb (length bs - 3) 7 (omega (arith, entry_room bs w)),
+        le-ltb (length bs - 3) 7 (omega (arith, room)),
       ))
 
   -- and where it is all of them, that entry
@@ -77,14 +79,14 @@ unfolding takes
 refused_in rec bs t = rw (entry_in bs t.whole t.size) (rw t.whole at t.refused)
 
 -- the ten bytes alone
-pub entry_part : (bs : List ℕ) → (front_of bs).whole ≡ true → form.entry_of (field_in (take 10 bs)) ≡ entry_at bs
+pub entry_part : (bs : List ℕ) → is_some (front_of bs) ≡ true → form.entry_of (field_in (take 10 bs)) ≡ entry_at bs
 entry_part bs w =
-    let l = entry_room bs w in
+    let l = room bs w in
     let e = front_take bs 10 0 (λ h. omega arith) in
     entry_in (take 10 bs) (rw e w) (length-take-le 10 bs l) ∙ rw e
 
 -- ---- a whole field with the tag of an entry of pins
-is_front : (bs : List ℕ) → 10 ≤ length bs → get_or bs 0 0 ≡ 32 → 256 * get_or bs 1 0 + get_or bs 2 0 ≡ 7 → (front_of bs).whole ≡ true
+is_front : (bs : List ℕ) → 10 ≤ length bs → get_or bs 0 0 ≡ 32 → 256 * get_or bs 1 0 + get_or bs 2 0 ≡ 7 → is_some (front_of bs) ≡ true
 unfolding front_of is_entry
 is_front bs l t n = rw (le-leb 10 (length bs) l, t, eq-eqb (get_or bs 1 0) 0 (omega arith), eq-eqb (get_or bs 2 0) 7 (omega arith))
 

@@ -1,14 +1,11 @@
 -- The head of some bytes, by how many they are, their first and the two behind it; and the field that a whole head has.
-use Rattle.std.proofs.Common.{◌≡◌, ℕ, suc, ◌+◌, ◌-◌, ◌*◌, ◌<◌, ◌≤◌, Bool, true, false, cond, not, ◌||◌, eqb, ltb, leb, ◌⊎◌, List, [], ◌∷◌, length, get_or, take, drop, refl, ap, ◌∙◌, inl, inr, ⊎_elim, arith, length-take-le, le-ltb, lt-ltb, ne_eqb}
+use Rattle.std.specs.Prelude.{Option, Some, None, Result, Ok, Err}
+use Rattle.std.proofs.Common.{◌≡◌, ℕ, suc, ◌+◌, ◌-◌, ◌*◌, ◌<◌, ◌≤◌, Bool, true, false, cond, eqb, ltb, leb, ◌⊎◌, List, [], ◌∷◌, length, get_or, take, drop, refl, ap, ◌∙◌, inl, inr, ⊎_elim, arith, length-take-le, le-ltb, lt-ltb, ne_eqb}
 use Rattle.rules.specs.Checks.{Refusal, refusal}
 use Rattle.rules.specs.Form as form
 use Rattle.rules.proofs.Tests.{le_cases, eq_cases}
-use Rattle.card.specs.Tags.{wrong_of}
-use Rattle.card.specs.declared.Wrong.{Wrong}
-use Rattle.chunks.specs.declared.heads.Head.{Head}
-use Rattle.chunks.specs.declared.heads.Head.TheVariants.{Whole, Cut, BadTag, BadLength}
 use Rattle.chunks.specs.Took.{tagged, newest}
-use Rattle.chunks.specs.Parts.{field_in, wrong_in, head_as}
+use Rattle.chunks.specs.Parts.{field_in, head_as}
 
 -- ---- where an entry may come
 pub come_as : (b : Bool) (last : ℕ) (s : Bool) (tag : ℕ) → form.may_come b (newest last s) tag ≡ form.may_follow b last tag
@@ -29,10 +26,6 @@ wrong_as b last s tag = ap (λ (e : ℕ). refusal (form.wrong_number b last tag)
         read true = unfold form.has tagged in refl
         read false = unfold form.has in refl
 
-pub wrong_told : (w : Wrong) → wrong_in (wrong_of w) ≡ w
-unfolding wrong_in wrong_of refusal
-wrong_told w = refl
-
 -- and behind it another
 pub still_comes : (b : Bool) (last : ℕ) → form.may_follow b last 32 ≡ true → form.may_follow true last 32 ≡ true
 unfolding form.may_follow form.of_trace form.of_entry
@@ -41,24 +34,31 @@ still_comes b last e = e
 -- but none behind the end field
 pub not_behind_lem : (b : Bool) (last : ℕ) → form.may_follow b last 32 ≡ true → last ≡ 33 → ⊥
 unfolding form.may_follow form.ends_group form.groups form.◌up_to◌
-not_behind_lem b last e z = let f : false ≡ true = rw z at e in let y : ◌≡◌ {A = ℕ} 0 1 = cc in omega arith
-
--- so a test of the end field too is no other test
-pub comes_by : (b : Bool) (last : ℕ) (m : Bool) → m ≡ form.may_follow b last 32 → (eqb last 33 || not m) ≡ not (form.may_follow b last 32)
-unfolding form.may_follow form.ends_group form.groups form.◌up_to◌
-comes_by b last m e = ⊎_elim
-    (λ (p : (last ≡ 33) × (eqb last 33 ≡ true)). rw p.0)
-    (λ (p : (last ≡ 33 → ⊥) × (eqb last 33 ≡ false)). rw (p.1, e))
-    (eq_cases last 33)
+not_behind_lem b last e z = let f : false ≡ true = rw z at e in cc
 
 -- ---- the head, where the length of what is behind the tag and the two bytes is l
-abbrev sized : (tag size l : ℕ) → Head
-sized t n l = cond (form.length_good t n) (cond (ltb l n) Cut (Whole (3 + n))) BadLength
+abbrev Sized : Type 0
+Sized = Result (Option ℕ) Refusal
 
-abbrev decided : Bool → List form.Field → (tag size l : ℕ) → Head
-decided b fs t n l = cond (eqb l 0) Cut (cond (form.may_come b fs t) (cond (ltb l 3) Cut (sized t n (l - 3))) (BadTag (wrong_in (form.wrong_tag b fs t))))
+abbrev whole : ℕ → Sized
+whole n = Ok (Some n)
 
-valued_is : (t h l : ℕ) (bs : List ℕ) → head_as (form.valued t h l bs) ≡ cond (ltb (length bs) (256 * h + l)) Cut (Whole (3 + (256 * h + l)))
+abbrev cut : Sized
+cut = Ok None
+
+abbrev bad_tag : Refusal → Sized
+bad_tag x = Err (refusal x.number x.rule 0)
+
+abbrev bad_length : Sized
+bad_length = Err (refusal 3 0 0)
+
+abbrev sized : (tag size l : ℕ) → Sized
+sized t n l = cond (form.length_good t n) (cond (ltb l n) cut (whole (3 + n))) bad_length
+
+abbrev decided : Bool → List form.Field → (tag size l : ℕ) → Sized
+decided b fs t n l = cond (eqb l 0) cut (cond (form.may_come b fs t) (cond (ltb l 3) cut (sized t n (l - 3))) (bad_tag (form.wrong_tag b fs t)))
+
+valued_is : (t h l : ℕ) (bs : List ℕ) → head_as (form.valued t h l bs) ≡ cond (ltb (length bs) (256 * h + l)) cut (whole (3 + (256 * h + l)))
 unfolding head_as form.valued form.size_of
 valued_is t h l bs =
     let n : ℕ = 256 * h + l in
@@ -67,12 +67,12 @@ valued_is t h l bs =
     (λ (p : (length bs < n) × (leb n (length bs) ≡ false)). rw (p.1, lt-ltb (length bs) n p.0))
     (le_cases n (length bs))
 
-sized_is : (good : Bool) (h : form.Head) → head_as (cond good h form.bad_length) ≡ cond good (head_as h) BadLength
+sized_is : (good : Bool) (h : form.Head) → head_as (cond good h form.bad_length) ≡ cond good (head_as h) bad_length
 unfolding head_as
 sized_is true h = refl
 sized_is false h = refl
 
-tagged_is : (comes : Bool) (h : form.Head) (x : Refusal) → head_as (cond comes h (form.bad_tag x)) ≡ cond comes (head_as h) (BadTag (wrong_in x))
+tagged_is : (comes : Bool) (h : form.Head) (x : Refusal) → head_as (cond comes h (form.bad_tag x)) ≡ cond comes (head_as h) (bad_tag x)
 unfolding head_as
 tagged_is true h x = refl
 tagged_is false h x = refl
@@ -89,9 +89,6 @@ head_is b fs (t ∷ h ∷ l ∷ bs) =
     ∙ rw (sized_is (form.length_good t (256 * h + l)) (form.valued t h l bs), valued_is t h l bs, ne_eqb n 0 (omega arith), le-ltb n 3 (omega arith), m)
 
 -- ---- a whole field
-cut_whole : {n : ℕ} → Cut ≡ Whole n → ⊥
-cut_whole e = let z : ◌≡◌ {A = ℕ} 0 1 = cc in omega arith
-
 pub record Fronted (b : Bool) (fs : List form.Field) (bs : List ℕ) (n : ℕ) : Type 0 where
   pub is : form.head_of b fs bs ≡ form.whole (field_in (take n bs)) (drop n bs)
   pub least : 3 ≤ n
@@ -116,34 +113,34 @@ module _ (b : Bool) (fs : List form.Field) (t h l : ℕ) (bs : List ℕ) (n : �
   }
 
   front_long : form.may_come b fs t ≡ true → form.length_good t size ≡ true → ((size ≤ length bs) × (leb size (length bs) ≡ true)) ⊎ ((length bs < size) × (leb size (length bs) ≡ false))
-      → head_as (form.valued t h l bs) ≡ Whole n → Fronted b fs (t ∷ h ∷ l ∷ bs) n
+      → head_as (form.valued t h l bs) ≡ whole n → Fronted b fs (t ∷ h ∷ l ∷ bs) n
   unfolding head_as form.valued form.size_of
   front_long comes good (inl p) e =
-      let f : Whole (3 + length (take size bs)) ≡ Whole n = rw p.1 at e in
+      let f : whole (3 + length (take size bs)) ≡ whole n = rw p.1 at e in
       let g : 3 + length (take size bs) ≡ n = cc in
       let k : 3 + size ≡ n = rw (length-take-le size bs p.0) at g in
       let m : suc (suc (suc size)) ≡ n = omega arith in
       rw (← m) (front_all comes good p)
-  front_long comes good (inr p) e = absurd (cut_whole (rw p.1 at e))
+  front_long comes good (inr p) e = let f : cut ≡ whole n = rw p.1 at e in absurd cc
 
-  front_good : (g : Bool) → form.length_good t size ≡ g → form.may_come b fs t ≡ true → head_as (cond g (form.valued t h l bs) form.bad_length) ≡ Whole n → Fronted b fs (t ∷ h ∷ l ∷ bs) n
+  front_good : (g : Bool) → form.length_good t size ≡ g → form.may_come b fs t ≡ true → head_as (cond g (form.valued t h l bs) form.bad_length) ≡ whole n → Fronted b fs (t ∷ h ∷ l ∷ bs) n
   unfolding head_as
   front_good true good comes e = front_long comes good (le_cases size (length bs)) e
-  front_good false good comes e = absurd (let z : ◌≡◌ {A = ℕ} 0 1 = cc in omega arith)
+  front_good false good comes e = absurd cc
 
-  front_comes : (m : Bool) → form.may_come b fs t ≡ m → head_as (cond m (cond (form.length_good t size) (form.valued t h l bs) form.bad_length) (form.bad_tag (form.wrong_tag b fs t))) ≡ Whole n → Fronted b fs (t ∷ h ∷ l ∷ bs) n
+  front_comes : (m : Bool) → form.may_come b fs t ≡ m → head_as (cond m (cond (form.length_good t size) (form.valued t h l bs) form.bad_length) (form.bad_tag (form.wrong_tag b fs t))) ≡ whole n → Fronted b fs (t ∷ h ∷ l ∷ bs) n
   unfolding head_as
   front_comes true comes e = front_good (form.length_good t size) refl comes e
-  front_comes false comes e = absurd (let z : ◌≡◌ {A = ℕ} 0 1 = cc in omega arith)
+  front_comes false comes e = absurd cc
 
-no_front : (m : Bool) (x : Refusal) {n : ℕ} → head_as (cond m form.cut (form.bad_tag x)) ≡ Whole n → ⊥
+no_front : (m : Bool) (x : Refusal) {n : ℕ} → head_as (cond m form.cut (form.bad_tag x)) ≡ whole n → ⊥
 unfolding head_as
-no_front true x e = let z : ◌≡◌ {A = ℕ} 0 1 = cc in omega arith
-no_front false x e = let z : ◌≡◌ {A = ℕ} 0 1 = cc in omega arith
+no_front true x e = cc
+no_front false x e = cc
 
-pub front : (b : Bool) (fs : List form.Field) (bs : List ℕ) (n : ℕ) → head_as (form.head_of b fs bs) ≡ Whole n → Fronted b fs bs n
+pub front : (b : Bool) (fs : List form.Field) (bs : List ℕ) (n : ℕ) → head_as (form.head_of b fs bs) ≡ whole n → Fronted b fs bs n
 unfolding head_as form.head_of form.sized
-front b fs [] n e = absurd (cut_whole e)
+front b fs [] n e = absurd cc
 front b fs (t ∷ []) n e = absurd (no_front (form.may_come b fs t) (form.wrong_tag b fs t) e)
 front b fs (t ∷ h ∷ []) n e = absurd (no_front (form.may_come b fs t) (form.wrong_tag b fs t) e)
 front b fs (t ∷ h ∷ l ∷ bs) n e = front_comes b fs t h l bs n (form.may_come b fs t) refl e

@@ -1,8 +1,7 @@
 -- How far a run of bytes is heard on the way: some bytes and their lines, and then all that is heard from there.
 use Rattle.std.proofs.Common.{◌≡◌, ℕ, ◌+◌, ◌-◌, Bool, true, List, [], ◌++◌, length, drop, sym, ap, ◌∙◌, append_assoc, add_assoc, zero-add, arith, length-append, drop-drop}
 use Rattle.chunks.specs.declared.State.{State}
-use Rattle.chunks.specs.declared.fields.Move.TheVariants.{On}
-use Rattle.chunks.specs.Took.{took_of}
+use Rattle.chunks.specs.Took.{On, took_of}
 use Rattle.chunks.specs.Heard.{Heard, behind, heard_of}
 use Rattle.chunks.specs.Parts.{Leads}
 use Rattle.chunks.proofs.Turns.{has_room, line_if}

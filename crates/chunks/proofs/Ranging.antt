@@ -1,4 +1,5 @@
 -- A run is a run of single fields, each an entry that is taken.
+use Rattle.std.specs.Prelude.{Some, None, is_some}
 use Rattle.std.proofs.Common.{◌≡◌, ℕ, zero, suc, ◌+◌, ◌-◌, ◌*◌, ◌/◌, ◌^◌, ◌<◌, ◌≤◌, Bool, true, false, cond, List, [], ◌++◌, length, take, drop, refl, ap, ◌∙◌, add-zero, arith, length-drop, length-take-le, get_or-take, w64, Fits, eq-eqb, ne_eqb, le-leb}
 use mathlib.Core.Option.{none}
 use Rattle.rules.specs.Levels.{Read}
@@ -9,7 +10,6 @@ use Rattle.rules.proofs.Sound.{step_passed}
 use Rattle.card.specs.declared.Card.{Card}
 use Rattle.card.specs.Values.{card_of}
 use Rattle.pins.specs.Fronts.{front_of}
-use Rattle.pins.proofs.Fronts.{entry_room}
 use Rattle.bank.specs.declared.Record.{Record}
 use Rattle.bank.specs.Values.{lent_of}
 use Rattle.bank.specs.After.{record_after}
@@ -17,25 +17,23 @@ use Rattle.bank.proofs.Remembered.{bank_low}
 use Rattle.bank.proofs.Changed.{recorded_bank}
 use Rattle.step.specs.declared.Ran.{Ran}
 use Rattle.step.specs.Values.{record_with}
-use Rattle.step.specs.Runs.{entry_at, takes, commands_by, refreshes_by, ran, behind, run_of}
+use Rattle.step.specs.Runs.{front_at, entry_at, takes, commands_by, refreshes_by, ran, behind, run_of}
 use Rattle.step.proofs.Onward.{taken_if}
 use Rattle.lines.specs.Written.{Lined}
+use Rattle.lines.proofs.Puts.{lined_nothing}
 use Rattle.lines.specs.Runs.{Standing, counter_for, line_at, next_at, lines_at}
 use Rattle.chunks.specs.declared.State.{State}
-use Rattle.chunks.specs.declared.fields.Move.TheVariants.{On}
-use Rattle.chunks.specs.declared.fields.Took.{Took}
-use Rattle.chunks.specs.Took.{took_as, entry_after, entry_refused, entry_took, field_took, head_took, read_in, head_at, took_of}
+use Rattle.chunks.specs.Took.{On, Took, took_as, entry_after, entry_refused, entry_took, field_took, head_took, read_in, head_at, took_of}
 use Rattle.chunks.specs.Heard.{field_line, head_line, line_of}
-use Rattle.chunks.specs.Parts.{field_in, stands_in, lines_if, Leads, state_with, entry_may_come, Leapt}
+use Rattle.chunks.specs.Parts.{field_in, stands_in, lines_of, lines_if, Leads, state_with, entry_may_come, NoneHere, Leapt}
 use Rattle.chunks.proofs.Bytes.{Bytes, bytes_drop, four_small}
 use Rattle.chunks.proofs.Wraps.{wrapped_is, wrapped_small, wrapped_twice}
 use Rattle.chunks.proofs.Sizes.{size_in}
 use Rattle.chunks.proofs.Fronts.{Fronted, come_as, still_comes, not_behind_lem}
-use Rattle.chunks.proofs.Entries.{front_is, front_tag, entry_fronted, entry_part}
+use Rattle.chunks.proofs.Entries.{front_is, room, front_tag, entry_fronted, entry_part}
 use Rattle.chunks.proofs.Short.{entry_short}
 use Rattle.chunks.proofs.Turns.{has_room, line_if}
 use Rattle.chunks.proofs.Leads.{leads_nowhere, leads_on, leads_then}
-use Rattle.chunks.proofs.Lining.{lined_nothing}
 use Rattle.chunks.proofs.Stood.{whose_in, read_by, part_low, counter_by, counter_low, read_by_lem, stands_after}
 
 -- numbers of the state that 64 bits hold
@@ -50,11 +48,11 @@ small_by st c r o = record { commands = omega arith; refreshes = omega arith; of
 
 -- ---- one entry
 module _ (st : State) (bs : List ℕ) (comes : entry_may_come st ≡ true) (b : Bytes bs) (go : takes st.rec bs ≡ true) where
-  parts : ((front_of bs).whole ≡ true) × (step_refusal (lent_of st.rec) (entry_at bs) ≡ none)
+  parts : (is_some (front_of bs) ≡ true) × (step_refusal (lent_of st.rec) (entry_at bs) ≡ none)
   parts = taken_if st.rec bs go
 
   long : 10 ≤ length bs
-  long = entry_room bs parts.0
+  long = room bs parts.0
 
   good : lent_good (lent_of st.rec) ≡ true
   good = (step_passed (lent_of st.rec) (entry_at bs) parts.1).good
@@ -120,9 +118,9 @@ module _ (st : State) (bs : List ℕ) (comes : entry_may_come st ≡ true) (b : 
   line_short : length (line_at card.sleeps card.paired stands bs) ≤ 24
   unfolding line_at
   line_short =
-      entry_short (front_of bs).stamp (recorded_as here) (whose_in st.rec bs) counter
+      entry_short (front_at bs).stamp (recorded_as here) (whose_in st.rec bs) counter
       (rw (front_is bs parts.0) (four_small (drop 3 bs) (bytes_drop 3 bs b)))
-      (bank_low (recorded_as here) counter (counter_low st.rec bs good) (recorded_bank card.sleeps card.paired stands.level (front_of bs).pins))
+      (bank_low (recorded_as here) counter (counter_low st.rec bs good) (recorded_bank card.sleeps card.paired stands.level (front_at bs).pins))
       (part_low st.rec bs)
 
   next_stands : stands_in next.rec ≡ next_at card.sleeps card.paired stands bs
@@ -142,17 +140,17 @@ module _ (st : State) (bs : List ℕ) (comes : entry_may_come st ≡ true) (b : 
   next_small = record { commands = wrapped_small _; refreshes = wrapped_small _; offset = wrapped_small _ }
 
 -- ---- a run of them
-pub record Ranged (q : Bool) (room : ℕ) (st : State) (bs : List ℕ) (most : ℕ) (r : Ran) : Type 0 where
+pub record Ranged (q : Bool) (room : ℕ) (st : State) (bs : List ℕ) (most : ℕ) (r : Ran Record) : Type 0 where
   pub count : ℕ
   pub used : r.used ≡ 10 * count
   pub few : count ≤ most
   pub inside : 10 * count ≤ length bs
   pub leads : Leads q room st bs r.used (lines_if q count st.rec bs) (state_with st r)
   -- where it may take an entry and takes none, none is taken here
-  pub stops : 1 ≤ most → r.used ≡ 0 → takes r.rec bs ≡ false
+  pub stops : 1 ≤ most → r.used ≡ 0 → takes st.rec bs ≡ false
 
 nothing : (q : Bool) (rec : Record) (bs : List ℕ) → lines_if q 0 rec bs ≡ []
-unfolding lines_if lines_at
+unfolding lines_if lines_of lines_at
 nothing true rec bs = refl
 nothing false rec bs = refl
 
@@ -179,7 +177,7 @@ ranged_nowhere q room st bs most s gone = record {
 one_line : (q : Bool) (st : State) (bs : List ℕ) (k : ℕ) (next : Record) → line_of st bs ≡ line_at st.rec.card.sleeps st.rec.card.paired (stands_in st.rec) bs →
     stands_in next ≡ next_at st.rec.card.sleeps st.rec.card.paired (stands_in st.rec) bs → next.card ≡ st.rec.card →
     line_if q st bs ++ lines_if q k next (drop 10 bs) ≡ lines_if q (suc k) st.rec bs
-unfolding lines_if lines_at
+unfolding lines_if lines_of lines_at
 one_line true st bs k next e f g = refl
 one_line false st bs k next e f g = rw (e, f, g)
 
@@ -192,7 +190,7 @@ has_room_lem true room k h = refl
 has_room_lem false room k h = let l = h refl in le-leb 64 room (omega arith)
 
 -- the states add up
-add_up : (st : State) (rec : Record) (u m n : ℕ) (r : Ran) → state_with (state_with st (ran rec u m n)) r ≡ state_with st (behind u m n r)
+add_up : (st : State) (rec : Record) (u m n : ℕ) (r : Ran Record) → state_with (state_with st (ran rec u m n)) r ≡ state_with st (behind u m n r)
 unfolding state_with
 add_up st rec u m n r = λ i. record {
   tag = st.tag;
@@ -218,7 +216,7 @@ module _ (k : ℕ) (q : Bool) (room : ℕ) (st : State) (bs : List ℕ) (comes :
       let s = line_if_short q st bs _ (line_here st bs comes b go) (line_short st bs comes b go) in
       omega arith
 
-  ranged_on : (r : Ran) → Ranged q (room - length (line_if q st bs)) then (drop 10 bs) k r →
+  ranged_on : (r : Ran Record) → Ranged q (room - length (line_if q st bs)) then (drop 10 bs) k r →
       Ranged q room st bs (suc k) (behind 10 (commands_by st.rec (entry_at bs)) (refreshes_by st.rec (entry_at bs)) r)
   ranged_on r g =
       let u = g.used in
@@ -262,16 +260,15 @@ ranged (suc k) q room st bs comes b small wide =
 
 -- ---- as the code has it
 module _ (q : Bool) (st : State) (bs old : List ℕ) where
-  pub leapt_nowhere : entry_may_come st ≡ false → Leapt q st bs old old (record { used = 0; wrote = 0; state = st })
+  pub leapt_nowhere : NoneHere st bs → Leapt q st bs old old None
   leapt_nowhere n = record {
     lines = [];
-    leads = leads_nowhere q (length old) st bs;
     put = lined_nothing old;
-    inside = omega arith;
-    nowhere = λ z. (refl, λ r. absurd (let y : ◌≡◌ {A = ℕ} 0 1 = cc in omega arith));
+    some = λ a e. absurd cc;
+    none = λ e. (refl, n);
   }
 
-  module _ {most : ℕ} {r : Ran} (g : Ranged q (length old) st bs most r) where
+  module _ {most : ℕ} {r : Ran Record} (g : Ranged q (length old) st bs most r) where
     pub asks : (q ≡ false → 24 * most ≤ length old - 40) → (10 * (r.used / 10) ≤ length bs) × (q ≡ false → 24 * (r.used / 10) ≤ length old - 40)
     asks h =
         let u = g.used in
@@ -279,19 +276,25 @@ module _ (q : Bool) (st : State) (bs old : List ℕ) where
         let i = g.inside in
         (omega arith, λ e. let w = h e in omega arith)
 
-    no_lines : (count : ℕ) → count ≡ 0 → length (lines_if q count st.rec bs) ≡ 0
-    no_lines count e = rw (e, nothing q st.rec bs)
-
-    pub leapt : (new : List ℕ) (wrote : ℕ) → 1 ≤ most → Lined (lines_if q (r.used / 10) st.rec bs) old new wrote →
-        Leapt q st bs old new (record { used = r.used; wrote = wrote; state = state_with st r })
-    leapt new wrote more l =
+    pub leapt : (new : List ℕ) (wrote : ℕ) → (r.used ≡ 0 → ⊥) → Lined (lines_if q (r.used / 10) st.rec bs) old new wrote →
+        Leapt q st bs old new (Some (record { used = r.used; wrote = wrote; state = state_with st r }))
+    leapt new wrote n l =
         let u = g.used in
         let i = g.inside in
         let e : r.used / 10 ≡ g.count = omega arith in
         record {
           lines = lines_if q g.count st.rec bs;
-          leads = g.leads;
           put = rw e at l;
-          inside = omega arith;
-          nowhere = λ z. (l.count ∙ no_lines _ (omega arith), λ x. unfold state_with in g.stops more z);
+          some = λ a is. let same : record { used = r.used; wrote = wrote; state = state_with st r } ≡ a = cc in rw (← same) (omega arith, omega arith, g.leads);
+          none = λ e. absurd cc;
         }
+
+-- the lines are written only where the caller is not quiet
+pub lined_quiet : (q : Bool) (k : ℕ) (rec : Record) (bs old new : List ℕ) (wrote : ℕ) → q ≡ true → new ≡ old → wrote ≡ 0 → Lined (lines_if q k rec bs) old new wrote
+unfolding lines_if
+lined_quiet q k rec bs old new wrote e n w = rw (e, n, w) (lined_nothing old)
+
+pub lined_loud : (q : Bool) (k : ℕ) (rec : Record) (bs old new part : List ℕ) (wrote r : ℕ) → q ≡ false → new ≡ part → wrote ≡ r → Lined (lines_of k rec bs) old part r
+    → Lined (lines_if q k rec bs) old new wrote
+unfolding lines_if
+lined_loud q k rec bs old new part wrote r e n w l = rw (e, n, w) l

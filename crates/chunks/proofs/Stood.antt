@@ -14,7 +14,6 @@ use Rattle.rules.proofs.Sound.{sound, sound_ledger, step_passed, ledger_kept}
 use Rattle.card.specs.Values.{card_of}
 use Rattle.pins.specs.Values.{level_of}
 use Rattle.pins.specs.Counter.{counter_on}
-use Rattle.pins.specs.Fronts.{front_of}
 use Rattle.ledger.specs.declared.Ledger.{Ledger}
 use Rattle.ledger.specs.Values.{ledger_of, code_of}
 use Rattle.bank.specs.declared.Share.{Share}
@@ -23,7 +22,7 @@ use Rattle.bank.specs.Values.{share_of, share_at, lent_of}
 use Rattle.bank.specs.After.{share_after, share_taken, record_after}
 use Rattle.bank.proofs.Shares.{is_low, share_in_lem, first_is}
 use Rattle.step.specs.Values.{record_with}
-use Rattle.step.specs.Runs.{entry_at}
+use Rattle.step.specs.Runs.{front_at, entry_at}
 use Rattle.step.proofs.Kept.{ledger_back}
 use Rattle.lines.specs.Runs.{counter_for, counter_if, standing_after}
 use Rattle.chunks.specs.Parts.{stands_in}
@@ -47,7 +46,7 @@ module _ (rec : Record) (bs : List ℕ) where
   e = entry_at bs
 
   abbrev pins : ℕ
-  pins = (front_of bs).pins
+  pins = (front_at bs).pins
 
   abbrev pub whose_in : Whose
   whose_in = whose rec.card.paired pins
@@ -102,7 +101,7 @@ module _ (rec : Record) (bs : List ℕ) where
         first = ap (λ (s : lent.Share). s.ledger.level) (share_in_lem rec 0 (omega arith)) ∙ (unfold share_of ledger_of in refl)
 
         still : (x : Bool) → rec.card.paired ≡ x → is_of 0 whose_in ≡ false → move_of read_by ≡ stays
-        still false u o = let z : true ≡ false = sym (alone u) ∙ o in let y : ◌≡◌ {A = ℕ} 0 1 = cc in absurd (omega arith)
+        still false u o = let z : true ≡ false = sym (alone u) ∙ o in absurd cc
         still true u o = rw (u, apart u) (unfold read_as in pair_stays pins)
 
         go : (x : Bool) → is_of 0 whose_in ≡ x → level_after (cond x (effect_in l e) no_effect).move (l.share 0).ledger.level ≡ level_after (move_of read_by) (stands_in rec).level

@@ -3,10 +3,7 @@ use Rattle.std.proofs.Common.{◌≡◌, ℕ, suc, ◌-◌, Bool, true, false, c
 use Rattle.chunks.specs.declared.State.{State}
 use Rattle.chunks.specs.declared.Verdict.{Verdict}
 use Rattle.chunks.specs.declared.What.TheVariants.{More, Full, Over}
-use Rattle.chunks.specs.declared.fields.Move.{Move}
-use Rattle.chunks.specs.declared.fields.Took.{Took}
-use Rattle.chunks.specs.declared.fields.Move.TheVariants.{On, Wait, End}
-use Rattle.chunks.specs.Took.{took_as, took_of}
+use Rattle.chunks.specs.Took.{Move, On, Wait, End, Took, took_as, took_of}
 use Rattle.chunks.specs.Heard.{line_of, Heard, heard, behind, heard_from}
 
 -- one more line may be written

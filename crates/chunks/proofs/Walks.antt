@@ -3,9 +3,7 @@ use Rattle.std.proofs.Common.{◌≡◌, ℕ, zero, suc, ◌-◌, ◌<◌, Bool,
 use Rattle.chunks.specs.declared.State.{State}
 use Rattle.chunks.specs.declared.Verdict.{Verdict}
 use Rattle.chunks.specs.declared.What.TheVariants.{More, Full, Over}
-use Rattle.chunks.specs.declared.fields.Move.{Move}
-use Rattle.chunks.specs.declared.fields.Move.TheVariants.{On, Wait, End}
-use Rattle.chunks.specs.Took.{took_of}
+use Rattle.chunks.specs.Took.{Move, On, Wait, End, took_of}
 use Rattle.chunks.specs.Heard.{Heard, heard, behind, heard_from, heard_of}
 use Rattle.chunks.proofs.Turns.{has_room, line_if, turn, after, by_turn}
 use Rattle.chunks.proofs.Advances.{taken_size}

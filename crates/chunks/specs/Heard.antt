@@ -15,8 +15,7 @@ use Rattle.chunks.specs.declared.What.{What}
 use Rattle.chunks.specs.declared.What.TheVariants.{More, Full, Over}
 use Rattle.chunks.specs.declared.Verdict.{Verdict}
 use Rattle.chunks.specs.declared.Verdict.TheVariants.{Accepted, Refused}
-use Rattle.chunks.specs.declared.fields.Move.TheVariants.{On, Wait, End}
-use Rattle.chunks.specs.Took.{head_at, took_of}
+use Rattle.chunks.specs.Took.{On, Wait, End, head_at, took_of}
 
 -- before the first byte
 unfoldable pub start_of : State

@@ -1,9 +1,10 @@
--- The parts of one field's taking: the field that some bytes are, its head, what an answer refuses with, the state behind it; and many entries at once.
-use Rattle.std.specs.Prelude.{◌≡◌, ℕ, ◌+◌, ◌-◌, ◌≤◌, Bool, true, false, cond, List, [], length, drop, ◌==◌, slice_index}
-use Rattle.std.proofs.Math.Option.{Option, none, some}
+-- The parts of one field's taking: the field that some bytes are, its head, what the code answers of it, the state behind it; and many entries at once.
+use Rattle.std.specs.Prelude.{◌≡◌, ℕ, ◌+◌, ◌-◌, ◌≤◌, Bool, true, false, cond, List, [], length, drop, slice_index, Option, Some, None, IsSome, Result, Ok, Err}
 use Rattle.rules.specs.Form as form
 use Rattle.rules.specs.Checks.{Refusal, refusal}
-use Rattle.card.specs.declared.Wrong.{Wrong}
+use Rattle.card.specs.declared.Unread.{Unread}
+use Rattle.card.specs.declared.Unread.TheVariants.{Tag, Length, Value}
+use Rattle.card.specs.Tags.{wrong_of}
 use Rattle.pins.specs.Values.{level_of}
 use Rattle.pins.specs.Fronts.{front_of}
 use Rattle.lines.specs.Written.{Lined}
@@ -15,34 +16,56 @@ use Rattle.step.specs.Runs.{takes}
 use Rattle.chunks.specs.declared.State.{State}
 use Rattle.chunks.specs.declared.What.{What}
 use Rattle.chunks.specs.declared.Fed.{Fed}
-use Rattle.chunks.specs.declared.heads.Head.{Head}
-use Rattle.chunks.specs.declared.heads.Head.TheVariants.{Whole, Cut, BadTag, BadLength}
-use Rattle.chunks.specs.declared.told.Told.{Told}
+use Rattle.chunks.specs.declared.Verdict.{Verdict}
+use Rattle.chunks.specs.declared.Verdict.TheVariants.{Refused}
+use Rattle.chunks.specs.declared.numbers.Numbers.{Numbers}
+use Rattle.chunks.specs.declared.fields.Taken.{Taken}
 use Rattle.chunks.specs.declared.leaps.Ahead.{Ahead}
-use Rattle.chunks.specs.Took.{wrapped, record_closed}
+use Rattle.chunks.specs.Took.{On, Wait, Took, took_as, refused_here, wrapped, record_closed}
 use Rattle.chunks.specs.Heard.{behind, heard_of}
 
 unfoldable pub field_in : List ℕ → form.Field
 field_in bs = record { tag = slice_index bs 0; high = slice_index bs 1; low = slice_index bs 2; value = drop 3 bs }
 
--- a tag's number, and what is expected in its place
-unfoldable pub wrong_in : Refusal → Wrong
-wrong_in x = record { number = x.number; expected = x.rule }
+-- ---- what the code answers
+unfoldable pub refusal_in : Numbers → Refusal
+refusal_in x = refusal x.number x.rule x.cycle
 
-unfoldable pub head_as : form.Head → Head
-head_as (form.whole f rest) = Whole (form.size_of f)
-head_as form.cut = Cut
-head_as (form.bad_tag x) = BadTag (wrong_in x)
-head_as form.bad_length = BadLength
+-- of a card's field
+unfoldable pub unread_as : Unread → Refusal
+unread_as (Tag w) = wrong_of w
+unread_as Length = refusal 3 0 0
+unread_as Value = refusal 4 0 0
 
--- number, rule and cycle; no refusal has the number 0
-unfoldable pub told_of : Told → Option Refusal
-told_of x = cond (x.0 == 0) none (some (refusal x.0 x.1 x.2))
+unfoldable pub verdict_at : (offset : ℕ) → Refusal → Verdict
+verdict_at k x = Refused x.number x.rule k x.cycle
+
+-- of a head: the size of a whole field, none where its rest is not there yet, or a refusal
+unfoldable pub head_as : form.Head → Result (Option ℕ) Refusal
+head_as (form.whole f rest) = Ok (Some (form.size_of f))
+head_as form.cut = Ok None
+head_as (form.bad_tag x) = Err (refusal x.number x.rule 0)
+head_as form.bad_length = Err (refusal 3 0 0)
+
+unfoldable pub head_in : Result (Option ℕ) Unread → Result (Option ℕ) Refusal
+head_in (Ok n) = Ok n
+head_in (Err x) = Err (unread_as x)
+
+-- of a whole field of n bytes: the state behind it
+unfoldable pub whole_as : State → (n : ℕ) → Result State Numbers → Took
+whole_as st n (Ok next) = took_as (On n) next
+whole_as st n (Err x) = refused_here st (refusal_in x)
+
+-- of any bytes: the field taken, or none where its rest is not there yet
+unfoldable pub took_in : State → Result (Option Taken) Numbers → Took
+took_in st (Ok (Some t)) = took_as (On t.size) t.state
+took_in st (Ok None) = took_as Wait st
+took_in st (Err x) = refused_here st (refusal_in x)
 
 -- some bytes are the field of an entry of pins, and a record does not take it
 pub record NotTaken (rec : Record) (bs : List ℕ) : Type 0 where
   pub size : length bs ≡ 10
-  pub whole : (front_of bs).whole ≡ true
+  pub whole : IsSome (front_of bs)
   pub refused : takes rec bs ≡ false
 
 -- the state behind the end, with the ledgers then
@@ -64,11 +87,14 @@ Leads q room st bs n lines next = heard_of q room st bs ≡ behind n lines (hear
 abbrev pub stands_in : Record → Standing
 stands_in rec = standing (level_of rec.first.ledger.level) rec.first.counter rec.second.counter
 
+unfoldable pub lines_of : (count : ℕ) → Record → List ℕ → List ℕ
+lines_of k rec bs = lines_at rec.card.sleeps rec.card.paired k (stands_in rec) bs
+
 unfoldable pub lines_if : (quiet : Bool) → (count : ℕ) → Record → List ℕ → List ℕ
-lines_if q k rec bs = cond q [] (lines_at rec.card.sleeps rec.card.paired k (stands_in rec) bs)
+lines_if q k rec bs = cond q [] (lines_of k rec bs)
 
 -- the state behind a run
-unfoldable pub state_with : State → Ran → State
+unfoldable pub state_with : State → Ran Record → State
 state_with st r = record {
   tag = st.tag;
   rec = r.rec;
@@ -84,13 +110,16 @@ entry_may_come st = form.may_follow st.rec.last.seen st.tag 32
 abbrev pub NoneHere : State → List ℕ → Type 0
 NoneHere st bs = entry_may_come st ≡ true → takes st.rec bs ≡ false
 
--- so many bytes further on, with their lines written
-pub record Leapt (q : Bool) (st : State) (bs old new : List ℕ) (r : Ahead) : Type 0 where
+abbrev pub wrote_by : Option Ahead → ℕ
+wrote_by None = 0
+wrote_by (Some a) = a.wrote
+
+-- some bytes further on, with their lines written; or nothing, where no entry that is taken stands here
+pub record Leapt (q : Bool) (st : State) (bs old new : List ℕ) (r : Option Ahead) : Type 0 where
   pub lines : List ℕ
-  pub leads : Leads q (length old) st bs r.used lines r.state
-  pub put : Lined lines old new r.wrote
-  pub inside : r.used ≤ length bs
-  pub nowhere : r.used ≡ 0 → (r.wrote ≡ 0) × NoneHere r.state bs
+  pub put : Lined lines old new (wrote_by r)
+  pub some : (a : Ahead) → r ≡ Some a → (1 ≤ a.used) × (a.used ≤ length bs) × Leads q (length old) st bs a.used lines a.state
+  pub none : r ≡ None → (lines ≡ []) × NoneHere st bs
 
 abbrev pub fed_of : What → (used wrote : ℕ) → State → Fed
 fed_of w u n st = record { what = w; used = u; wrote = n; state = st }

@@ -19,10 +19,19 @@ use Rattle.bank.specs.Both.{ledgers_as}
 use Rattle.step.specs.Values.{record_with}
 use Rattle.step.specs.Runs.{commands_by, refreshes_by}
 use Rattle.chunks.specs.declared.State.{State}
+use Rattle.chunks.specs.declared.Verdict.{Verdict}
 use Rattle.chunks.specs.declared.Verdict.TheVariants.{Refused}
-use Rattle.chunks.specs.declared.fields.Move.{Move}
-use Rattle.chunks.specs.declared.fields.Move.TheVariants.{On, Wait, End}
-use Rattle.chunks.specs.declared.fields.Took.{Took}
+
+-- what the bytes at a place are: a whole field of so many bytes, one whose rest is not there yet, or the end of the judging
+pub data Move : Type 0 where
+  On : (size : ℕ) → Move
+  Wait : Move
+  End : Verdict → Move
+
+-- and the state then
+pub record Took : Type 0 where
+  pub how : Move
+  pub state : State
 
 abbrev pub took_as : Move → State → Took
 took_as m st = record { how = m; state = st }

@@ -1,11 +1,9 @@
 // The whole fields of a run of bytes.
-ghost use Rattle.std.specs.Prelude.{◌≡◌, length};
+ghost use Rattle.std.specs.Prelude.{◌≡◌, ◌||◌, length, nat_le};
 ghost use Rattle.chunks.specs.Heard.{start_of, heard_of, FedAs, owed_of, ended_at, finished_of};
-ghost use Rattle.chunks.specs.Parts.{fed_of};
 
-use crate::fields::Move;
-use crate::{Fed, State, Verdict, What, fields, leaps};
-use bank::Record;
+use crate::numbers::Numbers;
+use crate::{END, Fed, State, Verdict, What};
 use lines::Owed;
 
 // Before the first byte.
@@ -22,82 +20,74 @@ pub fn start() -> State
     }
 }
 
-fn fed(what: What, used: usize, wrote: usize, state: State) -> Fed
-    ensures { result ≡ fed_of what used wrote state }
+// Whether a line may be written, of whatever length.
+fn has_room(quiet: bool, room: usize) -> bool
+    ensures { result ≡ (quiet || nat_le 64 room) }
 {
-    Fed {
-        what: what,
-        used: used,
-        wrote: wrote,
-        state: state,
-    }
+    quiet || 64 <= room
 }
 
 // All the whole fields at the start of `bytes`, with the lines of the entries, as far as there is room for them.
-pub fn feed(state: State, bytes: &[u8], out: &mut [u8], quiet: bool) -> Fed
+pub fn feed(mut state: State, bytes: &[u8], out: &mut [u8], quiet: bool) -> Fed
     ensures { FedAs (heard_of quiet (length out.old) state bytes.now) out.old out.new result }
 {
-    let mut cur = state;
-    let mut used: usize = 0;
-    let mut wrote: usize = 0;
-    loop {
-        let room = out.len() - wrote;
-        if !(quiet | (64 <= room)) {
-            return fed(What::Full, used, wrote, cur);
+    let mut used = 0;
+    let mut wrote = 0;
+    let what = loop {
+        if !has_room(quiet, out.len() - wrote) {
+            break What::Full;
         }
-        let ahead = leaps::leap(cur, &bytes[used..], &mut out[wrote..], quiet);
-        used += ahead.used;
-        wrote += ahead.wrote;
-        cur = ahead.state;
-        if ahead.used != 0 {
+        if let Some(ahead) = state.leap(&bytes[used..], &mut out[wrote..], quiet) {
+            used += ahead.used;
+            wrote += ahead.wrote;
+            state = ahead.state;
             continue;
         }
-        let took = fields::take_field(cur, &bytes[used..]);
-        let how = took.how;
-        let next = took.state;
-        match how {
-            Move::Wait => {
-                return fed(What::More, used, wrote, cur);
+        match state.take_field(&bytes[used..]) {
+            Ok(Some(taken)) => {
+                used += taken.size;
+                state = taken.state;
             }
-            Move::End(verdict) => {
-                return fed(What::Over(verdict), used, wrote, cur);
-            }
-            Move::On(size) => {
-                used += size;
-                cur = next;
-            }
+            Ok(None) => break What::More,
+            Err(numbers) => break What::Over(numbers.at(state.offset)),
+        }
+    };
+    Fed {
+        what,
+        used,
+        wrote,
+        state,
+    }
+}
+
+impl State {
+    // By each part that there is.
+    #[tactic(auto, unfolding(crate::specs::Heard::owed_of))]
+    fn owed(&self) -> Owed
+        ensures { result ≡ owed_of self.now.rec }
+    {
+        let rec = &self.rec;
+        if rec.card.paired {
+            Owed::Two(rec.first.ledger.owed, rec.second.ledger.owed)
+        } else {
+            Owed::One(rec.first.ledger.owed)
         }
     }
-}
 
-// By each part that there is.
-#[tactic(auto, unfolding(crate::specs::Heard::owed_of))]
-fn owed_in(rec: Record) -> Owed
-    ensures { result ≡ owed_of rec }
-{
-    if rec.card.paired {
-        return Owed::Two(rec.first.ledger.owed, rec.second.ledger.owed);
-    }
-    Owed::One(rec.first.ledger.owed)
-}
-
-#[tactic(auto, unfolding(crate::specs::Heard::ended_at))]
-fn ended(state: State) -> Verdict
-    ensures { result ≡ ended_at state }
-{
-    let rec = state.rec;
-    if state.tag == 33 {
-        return Verdict::Accepted {
-            commands: state.commands,
-            refreshes: state.refreshes,
-            owed: owed_in(rec),
-        };
-    }
-    Verdict::Refused {
-        number: 1,
-        rule: 0,
-        offset: state.offset,
-        cycle: 0,
+    // Where the file ends here.
+    #[tactic(auto, unfolding(crate::specs::Heard::ended_at, crate::specs::Parts::verdict_at, rules::specs::Checks::refusal))]
+    fn verdict(&self) -> Verdict
+        ensures { result ≡ ended_at self.now }
+    {
+        if self.tag == END {
+            Verdict::Accepted {
+                commands: self.commands,
+                refreshes: self.refreshes,
+                owed: self.owed(),
+            }
+        } else {
+            Numbers::only(1).at(self.offset)
+        }
     }
 }
 
@@ -105,13 +95,9 @@ fn ended(state: State) -> Verdict
 pub fn finish(state: State, rest: &[u8]) -> Verdict
     ensures { result ≡ finished_of state rest.now }
 {
-    let mut nothing: [u8; 0] = [0; 0];
-    let fed = feed(state, rest, &mut nothing, true);
-    let what = fed.what;
-    let last = fed.state;
-    match what {
+    let fed = feed(state, rest, &mut [], true);
+    match fed.what {
         What::Over(verdict) => verdict,
-        What::More => ended(last),
-        What::Full => ended(last),
+        What::More | What::Full => fed.state.verdict(),
     }
 }

@@ -1,54 +1,35 @@
 // The head of what is left: tag, length, cut.
-ghost use Rattle.std.specs.Prelude.{◌≡◌, ◌+◌, ◌*◌, ◌<◌, ◌≤◌, length, slice_index};
-ghost use Rattle.rules.specs.Form as form;
-ghost use Rattle.chunks.specs.Took.{newest};
-ghost use Rattle.chunks.specs.Parts.{head_as};
+ghost use Rattle.std.specs.Prelude.{◌≡◌};
+ghost use Rattle.chunks.specs.Took.{head_at};
+ghost use Rattle.chunks.specs.Parts.{head_in, head_as};
 
-use card::Wrong;
+use crate::State;
+use card::Unread;
 
-// A whole field of so many bytes, one whose rest is not there yet, or a refusal.
-#[derive(Clone, Copy)]
-pub enum Head {
-    Whole(usize),
-    Cut,
-    BadTag(Wrong),
-    BadLength,
-}
-
-fn wide(x: u8) -> usize
-    ensures { (result ≡ x) × (result < 256) }
-{
-    x as usize
-}
-
-// The two bytes behind the tag.
-fn size_in(bytes: &[u8]) -> usize
-    requires { 3 ≤ length bytes.now }
-    ensures { (result ≡ 256 * slice_index bytes.now 1 + slice_index bytes.now 2) × (result < 65536) }
-{
-    256 * wide(bytes[1]) + wide(bytes[2])
-}
-
-// Behind this tag of the card; `begun`: an entry has come; `sleeps`: tags 19 to 22 were read.
-pub fn head_of(begun: bool, last: u8, sleeps: bool, bytes: &[u8]) -> Head
-    ensures { result ≡ head_as (form.head_of begun (newest last sleeps) bytes.now) }
-{
-    if bytes.len() == 0 {
-        return Head::Cut;
+impl State {
+    // How many bytes the field has that begins here; none where its rest is not there yet.
+    pub fn field_size(&self, bytes: &[u8]) -> Result<Option<usize>, Unread>
+        ensures { head_in result ≡ head_as (head_at self.now bytes.now) }
+    {
+        if bytes.is_empty() {
+            return Ok(None);
+        }
+        let begun = self.rec.last.seen;
+        let tag = bytes[0];
+        if !card::may_come(begun, self.tag, tag) {
+            let wrong = card::wrong_tag(begun, self.tag, self.rec.card.sleeps, tag);
+            return Err(Unread::Tag(wrong));
+        }
+        if bytes.len() < 3 {
+            return Ok(None);
+        }
+        let size = usize::from(u16::from_be_bytes([bytes[1], bytes[2]]));
+        if !card::length_good(tag, size) {
+            return Err(Unread::Length);
+        }
+        if bytes.len() - 3 < size {
+            return Ok(None);
+        }
+        Ok(Some(3 + size))
     }
-    let tag = bytes[0];
-    if !card::may_come(begun, last, tag) {
-        return Head::BadTag(card::wrong_tag(begun, last, sleeps, tag));
-    }
-    if bytes.len() < 3 {
-        return Head::Cut;
-    }
-    let size = size_in(bytes);
-    if !card::length_good(tag, size) {
-        return Head::BadLength;
-    }
-    if bytes.len() - 3 < size {
-        return Head::Cut;
-    }
-    Head::Whole(3 + size)
 }

@@ -1,9 +1,9 @@
 // Entries of pins, as many at a time as a run takes.
 ghost use Rattle.std.specs.Prelude.{◌≡◌, ◌-◌, ◌*◌, ◌≤◌, true, false, ◌||◌, length, nat_le};
 ghost use Rattle.lines.specs.Written.{Lined};
-ghost use Rattle.chunks.specs.Parts.{lines_if, state_with, Leapt};
+ghost use Rattle.chunks.specs.Parts.{lines_of, state_with, Leapt};
 
-use crate::State;
+use crate::{ENTRY, State};
 use bank::Record;
 use step::Ran;
 
@@ -15,70 +15,68 @@ pub struct Ahead {
     pub state: State,
 }
 
-#[tactic(auto, unfolding(crate::specs::Parts::state_with, crate::specs::Took::wrapped))]
-pub fn state_with(state: State, ran: Ran) -> State
-    ensures { result ≡ state_with state ran }
-{
-    let rec = ran.rec;
-    State {
-        tag: state.tag,
-        rec: rec,
-        commands: std::num::wrapping_add_u64(state.commands, ran.commands),
-        refreshes: std::num::wrapping_add_u64(state.refreshes, ran.refreshes),
-        offset: std::num::wrapping_add_u64(state.offset, ran.used as u64),
-    }
-}
-
 // How many entries are taken at most, so that each has room for its line, which has 24 bytes at most, and the last has 64 bytes of room.
 fn most(quiet: bool, room: usize) -> usize
     requires { (quiet || nat_le 64 room) ≡ true }
     ensures { (1 ≤ result) × (quiet ≡ false → 24 * result ≤ room - 40) }
 {
-    if quiet {
-        return usize::MAX;
-    }
-    (room - 40) / 24
+    if quiet { usize::MAX } else { (room - 40) / 24 }
 }
 
-// The lines of so many entries, one behind the other, from a record on. None are written where the caller is quiet.
-fn put_lines(rec: Record, bytes: &[u8], count: usize, out: &mut [u8], quiet: bool) -> usize
-    requires { (10 * count ≤ length bytes.now) × (quiet ≡ false → 24 * count ≤ length out.old - 40) }
-    ensures { Lined (lines_if quiet count rec bytes.now) out.old out.new result }
+// The lines of so many entries, one behind the other, from a record on.
+fn put_lines(rec: Record, bytes: &[u8], count: usize, out: &mut [u8]) -> usize
+    requires { (10 * count ≤ length bytes.now) × (24 * count ≤ length out.old - 40) }
+    ensures { Lined (lines_of count rec bytes.now) out.old out.new result }
 {
-    if quiet {
-        return 0;
-    }
-    let ledger = rec.first.ledger;
-    let level = ledger.level;
     lines::entry_lines(
         out,
         bytes,
         count,
         rec.card.sleeps,
         rec.card.paired,
-        level,
+        rec.first.ledger.level,
         rec.first.counter,
         rec.second.counter,
     )
 }
 
-// None where no entry may come: before the card is whole, and behind the end field.
-pub fn leap(state: State, bytes: &[u8], out: &mut [u8], quiet: bool) -> Ahead
-    requires { (quiet || nat_le 64 (length out.old)) ≡ true }
-    ensures { Leapt quiet state bytes.now out.old out.new result }
-{
-    if (state.tag == 33) | !card::may_come(state.rec.last.seen, state.tag, 32) {
-        return Ahead {
-            used: 0,
-            wrote: 0,
-            state: state,
-        };
+impl State {
+    // Behind what a run took.
+    #[tactic(auto, unfolding(crate::specs::Parts::state_with, crate::specs::Took::wrapped))]
+    pub fn with(&self, ran: Ran<Record>) -> State
+        ensures { result ≡ state_with self.now ran }
+    {
+        State {
+            rec: ran.rec,
+            commands: self.commands.wrapping_add(ran.commands),
+            refreshes: self.refreshes.wrapping_add(ran.refreshes),
+            offset: self.offset.wrapping_add(ran.used as u64),
+            ..*self
+        }
     }
-    let ran = step::run(state.rec, bytes, most(quiet, out.len()));
-    let wrote = put_lines(state.rec, bytes, ran.used / 10, out, quiet);
-    Ahead {
-        used: ran.used,
-        wrote: wrote,
-        state: state_with(state, ran),
+
+    // The entries that are taken at the start, if there are any: none before the card is whole, and none behind the end field. Their lines are written unless `quiet`.
+    // The two stay apart, since no clause can say what is written through an `Option<&mut [u8]>`.
+    pub fn leap(self, bytes: &[u8], out: &mut [u8], quiet: bool) -> Option<Ahead>
+        requires { (quiet || nat_le 64 (length out.old)) ≡ true }
+        ensures { Leapt quiet self bytes.now out.old out.new result }
+    {
+        if !card::may_come(self.rec.last.seen, self.tag, ENTRY) {
+            return None;
+        }
+        let ran = step::run(self.rec, bytes, most(quiet, out.len()));
+        if ran.used == 0 {
+            return None;
+        }
+        let wrote = if quiet {
+            0
+        } else {
+            put_lines(self.rec, bytes, ran.used / 10, out)
+        };
+        Some(Ahead {
+            used: ran.used,
+            wrote,
+            state: self.with(ran),
+        })
     }
 }

@@ -5,7 +5,7 @@ mod feeding;
 mod fields;
 mod heads;
 mod leaps;
-mod told;
+mod numbers;
 mod verdicts;
 
 use bank::Record;
@@ -13,7 +13,15 @@ pub use feeding::{feed, finish, start};
 use lines::Owed;
 pub use verdicts::verdict_line;
 
-// What comes back at the end: entries other than NOP, counted refreshes and what is owed at E; or the four numbers of a refusal.
+// The tags behind the card.
+const ENTRY: u8 = 32;
+
+const END: u8 = 33;
+
+const SENSED: u8 = 34;
+
+// What comes back at the end: entries other than NOP, counted refreshes and what is owed at E; or the four numbers of a refusal. No `Result`, since a refused file
+// is an answer like the other, which no caller hands on by `?`.
 #[derive(Clone, Copy)]
 pub enum Verdict {
     Accepted {
@@ -29,7 +37,8 @@ pub enum Verdict {
     },
 }
 
-// What was read of a file. `tag` is the tag of the card's newest field, 0 before the first, and 33 behind the end field; the record's card is the card so far.
+// What was read of a file. `tag` is the tag of the card's newest field, 0 before the first, as `card::may_come` takes it, and 33 behind the end field; the record's
+// card is the card so far.
 #[derive(Clone, Copy)]
 pub struct State {
     tag: u8,

@@ -14,10 +14,17 @@ use std::rt::{Env, Files};
 // A file half judged: the bytes before `at` are, and those from `end` on are still to come.
 #[derive(Clone, Copy)]
 struct Walk {
-    going: bool,
     state: State,
     at: usize,
     end: usize,
+}
+
+// The first bytes of a line.
+fn put(rt: &impl Print, line: &[u8; 64], size: usize) -> Result<()> {
+    if let Some(text) = line.get(..size) {
+        rt.write_all(text).context("standard output")?;
+    }
+    Ok(())
 }
 
 fn say(rt: &impl Print, verdict: Verdict) -> Result<()> {
@@ -26,102 +33,62 @@ fn say(rt: &impl Print, verdict: Verdict) -> Result<()> {
     put(rt, &line, size)
 }
 
-fn put(rt: &impl Print, out: &[u8], size: usize) -> Result<()> {
-    if size <= out.len() {
-        rt.write_all(&out[..size]).context("standard output")?;
-    }
-    Ok(())
-}
-
-fn over(rt: &impl Print, state: State, verdict: Verdict) -> Result<Walk> {
-    say(rt, verdict)?;
-    Ok(Walk {
-        going: false,
-        state: state,
-        at: 0,
-        end: 0,
-    })
-}
-
-// Seven bytes more, as far as there are any.
-fn further(end: usize, size: usize) -> usize {
-    if size <= end {
-        return size;
-    }
-    if size - end < 7 {
-        return size;
-    }
-    end + 7
-}
-
-// One call of the judge on the bytes from `at` to `end`. There is room for one line in it.
-fn piece(rt: &impl Print, walk: Walk, file: &[u8]) -> Result<Walk> {
-    let state = walk.state;
-    let at = walk.at;
-    let end = walk.end;
-    if file.len() < end {
-        return Ok(walk);
-    }
-    if end < at {
-        return Ok(walk);
-    }
+// One call of the judge on the bytes from `at` to `end`, with room for one line; then seven bytes more come, as far as there are any. None once the verdict is told.
+fn piece(rt: &impl Print, walk: Walk, file: &[u8]) -> Result<Option<Walk>> {
+    let Walk { state, at, end } = walk;
+    let Some(bytes) = file.get(at..end) else {
+        return Ok(None);
+    };
     let mut line = [0u8; 64];
-    let fed = chunks::feed(state, &file[at..end], &mut line, false);
+    let fed = chunks::feed(state, bytes, &mut line, false);
     put(rt, &line, fed.wrote)?;
-    let what = fed.what;
-    let next = fed.state;
-    let left = std::num::wrapping_add_usize(at, fed.used);
-    match what {
-        What::Over(verdict) => over(rt, next, verdict),
-        What::Full => Ok(Walk {
-            going: true,
-            state: next,
-            at: left,
-            end: end,
-        }),
-        What::More => more(rt, next, file, left, end),
+    let next = Walk {
+        state: fed.state,
+        at: at.wrapping_add(fed.used),
+        end,
+    };
+    match fed.what {
+        What::Over(verdict) => {
+            say(rt, verdict)?;
+            Ok(None)
+        }
+        What::Full => Ok(Some(next)),
+        What::More => more(rt, next, file),
     }
 }
 
-fn more(rt: &impl Print, state: State, file: &[u8], at: usize, end: usize) -> Result<Walk> {
-    if file.len() <= end {
-        if at <= file.len() {
-            return over(rt, state, chunks::finish(state, &file[at..]));
-        }
+fn more(rt: &impl Print, walk: Walk, file: &[u8]) -> Result<Option<Walk>> {
+    if walk.end < file.len() {
+        let end = walk.end.saturating_add(7).min(file.len());
+        return Ok(Some(Walk { end, ..walk }));
     }
-    Ok(Walk {
-        going: true,
-        state: state,
-        at: at,
-        end: further(end, file.len()),
-    })
+    if let Some(rest) = file.get(walk.at..) {
+        say(rt, chunks::finish(walk.state, rest))?;
+    }
+    Ok(None)
 }
 
 fn pieces(rt: &impl Print, file: &[u8]) -> Result<()> {
     let mut walk = Walk {
-        going: true,
         state: chunks::start(),
         at: 0,
         end: 0,
     };
-    let mut turns = u64::MAX;
-    while turns > 0 {
-        turns -= 1;
-        walk = piece(rt, walk, file)?;
-        if !walk.going {
-            turns = 0;
+    // A proved loop ends; no file lasts for so many pieces.
+    for _ in 0..u64::MAX {
+        match piece(rt, walk, file)? {
+            Some(next) => walk = next,
+            None => break,
         }
     }
     Ok(())
 }
 
 fn cuts(rt: &impl Print, file: &[u8]) -> Result<()> {
-    let mut size: usize = 0;
-    while size < file.len() {
+    for size in 0..=file.len() {
         say(rt, judge::judge(&file[..size]))?;
-        size += 1;
     }
-    say(rt, judge::judge(file))
+    Ok(())
 }
 
 // The bytes of the file, as many as there is room for, and how many these are.

@@ -14,9 +14,8 @@ use Rattle.rules.specs.Lines.{entry_lines}
 use Rattle.rules.proofs.Tests.{nowhere}
 use Rattle.chunks.specs.declared.State.{State}
 use Rattle.chunks.specs.declared.What.TheVariants.{Full}
-use Rattle.chunks.specs.declared.fields.Took.{Took}
 use Rattle.chunks.specs.Values.{verdict_of}
-use Rattle.chunks.specs.Took.{refused_by, behind_took, took_of}
+use Rattle.chunks.specs.Took.{Took, refused_by, behind_took, took_of}
 use Rattle.chunks.specs.Heard.{Heard, behind, heard_from, ended_at, over_at}
 use Rattle.chunks.proofs.Bytes.{Bytes, bytes_drop}
 use Rattle.chunks.proofs.Turns.{line_if, heard_full, heard_on, heard_waits, heard_ends, what_behind}

@@ -10,14 +10,12 @@ use Rattle.chunks.specs.declared.State.{State}
 use Rattle.chunks.specs.declared.Verdict.{Verdict}
 use Rattle.chunks.specs.declared.What.{What}
 use Rattle.chunks.specs.declared.What.TheVariants.{More, Full, Over}
-use Rattle.chunks.specs.declared.fields.Move.{Move}
-use Rattle.chunks.specs.declared.fields.Move.TheVariants.{On, Wait, End}
-use Rattle.chunks.specs.Took.{took_of}
+use Rattle.chunks.specs.Took.{Move, On, Wait, End, took_of}
 use Rattle.chunks.specs.Heard.{start_of, line_of, Heard, behind, heard_of, finished_of}
 use Rattle.chunks.proofs.Turns.{line_if}
-use Rattle.chunks.proofs.Advances.{wait_on, taken_size}
+use Rattle.chunks.proofs.Advances.{taken_size}
 use Rattle.chunks.proofs.Walks.{Walk, stops_full, stops_more, stops_over, takes, walk}
-use Rattle.judge.proofs.Prefix.{end_wait, took_stays, line_stays}
+use Rattle.judge.proofs.Prefix.{took_stays, line_stays}
 use Rattle.judge.proofs.Outcome.{text_of, text_on, text_wait, text_end, finished_on, finished_end}
 
 -- ---- why a call came back, at the state and the bytes that it left
@@ -50,7 +48,7 @@ module _ {X : Type 0} (q : Bool) (out : State → List ℕ → X) (after : List 
   first_ahead : (st : State) (bs : List ℕ) (n : ℕ) → (took_of st bs).how ≡ On n → (ys : List ℕ) →
       out st (bs ++ ys) ≡ after (line_if q st bs) (out (took_of st bs).state (drop n bs ++ ys))
   first_ahead st bs n e ys =
-      let t : took_of st (bs ++ ys) ≡ took_of st bs = took_stays st bs (λ w. wait_on (sym w ∙ e)) ys in
+      let t : took_of st (bs ++ ys) ≡ took_of st bs = took_stays st bs (λ w. cc) ys in
       let l : line_of st (bs ++ ys) ≡ line_of st bs = line_stays st bs n e ys in
       let d : drop n (bs ++ ys) ≡ drop n bs ++ ys = drop-append-le n bs ys (taken_size st bs n e).1 in
       f.first st (bs ++ ys) n (rw t e) ∙ rw (t, l, d)
@@ -73,7 +71,7 @@ module _ (q : Bool) (room : ℕ) (st : State) (bs : List ℕ) where
       (took_of (heard_of q room st bs).state (drop (heard_of q room st bs).used bs ++ ys)).how ≡ End v
   ended v e ys =
       let t = rw e at (left_over (walk q room st bs)) in
-      rw (took_stays (heard_of q room st bs).state (drop (heard_of q room st bs).used bs) (λ w. end_wait (sym t ∙ w)) ys) t
+      rw (took_stays (heard_of q room st bs).state (drop (heard_of q room st bs).used bs) (λ w. cc) ys) t
 
   -- what is judged is judged, whatever comes behind
   pub call_over : (v : Verdict) → (heard_of q room st bs).what ≡ Over v → (ys : List ℕ) → finished_of st (bs ++ ys) ≡ v

@@ -19,10 +19,8 @@ use Rattle.rules.proofs.FileSteps.{StepSays, card_on, entry_on, stops, step_says
 use Rattle.chunks.specs.declared.State.{State}
 use Rattle.chunks.specs.declared.Verdict.{Verdict}
 use Rattle.chunks.specs.declared.Verdict.TheVariants.{Refused}
-use Rattle.chunks.specs.declared.fields.Move.TheVariants.{On, Wait, End}
-use Rattle.chunks.specs.declared.fields.Took.{Took}
 use Rattle.chunks.specs.Values.{verdict_of}
-use Rattle.chunks.specs.Took.{took_as, refused_here, refused_by, refused_tag, head_took, took_of, field_took}
+use Rattle.chunks.specs.Took.{On, Wait, End, Took, took_as, refused_here, refused_by, refused_tag, head_took, took_of, field_took}
 use Rattle.chunks.specs.Heard.{field_line, head_line, line_of}
 use Rattle.chunks.proofs.Bytes.{Bytes, bytes_part}
 use Rattle.judge.proofs.Stands.{Stands, took_by, line_by}

@@ -9,12 +9,10 @@ use Rattle.rules.specs.Past.{Past}
 use Rattle.rules.specs.Form.{Field}
 use Rattle.rules.specs.File.{FileVerdict, Step}
 use Rattle.chunks.specs.declared.State.{State}
-use Rattle.chunks.specs.declared.fields.Move.TheVariants.{On}
-use Rattle.chunks.specs.declared.fields.Took.{Took}
-use Rattle.chunks.specs.Took.{took_of}
+use Rattle.chunks.specs.Took.{On, Took, took_of}
 use Rattle.chunks.specs.Heard.{Heard, behind, heard_of}
 use Rattle.chunks.proofs.Bytes.{Bytes, bytes_part, bytes_drop}
-use Rattle.chunks.proofs.Advances.{wait_on, end_on, behind_on}
+use Rattle.chunks.proofs.Advances.{behind_on}
 use Rattle.chunks.proofs.Walks.{Walk, stops_full, stops_more, stops_over, takes, walk}
 use Rattle.judge.proofs.Stands.{Stands, start_stands, far_below}
 use Rattle.judge.proofs.StandsEnd.{Ended}
@@ -28,8 +26,8 @@ data Standing (st : State) : Type 0 where
 
 -- ---- one field
 on_stands : {st : State} {past : Past} {at n : ℕ} {bs : List ℕ} {t : Took} {x : Step} → Moves st past at bs t x → t.how ≡ On n → Standing t.state
-on_stands waits e = wait_on e
-on_stands (stopped v) e = end_on e
+on_stands waits e = absurd cc
+on_stands (stopped v) e = absurd cc
 on_stands (goes n l m s w) e = reading s
 on_stands (closes n v at l m s w) e = closed s
 

@@ -8,9 +8,7 @@ use native.Mathlib.Omega.{arith}
 use lib.ListN.{length, drop}
 use Rattle.chunks.specs.declared.State.{State}
 use Rattle.chunks.specs.declared.Verdict.{Verdict}
-use Rattle.chunks.specs.declared.fields.Move.{Move}
-use Rattle.chunks.specs.declared.fields.Move.TheVariants.{On, Wait, End}
-use Rattle.chunks.specs.Took.{took_of}
+use Rattle.chunks.specs.Took.{Move, On, Wait, End, took_of}
 use Rattle.chunks.specs.Heard.{line_of, Heard, behind, ended_at, over_at, finished_of}
 use Rattle.chunks.proofs.Walks.{shorter, stops_more, stops_over, takes, walk, only}
 

@@ -1,21 +1,15 @@
 -- What some bytes decided stays so when more come behind them.
 use Prim.Native.Nat.{ℕ}
-use mathlib.Core.Path.{◌≡◌, refl, sym, ◌∙◌}
+use mathlib.Core.Path.{◌≡◌, refl}
 use mathlib.Core.Bool.{Bool, true, false, cond}
 use mathlib.Core.List.{List, [], ◌∷◌, ◌++◌, append_assoc}
-use native.Mathlib.Omega.{arith}
 use lib.Dec.{eqb}
 use Rattle.rules.specs.Form.{Field, bytes_of, Head, head_of}
 use Rattle.rules.proofs.FileHeads.{HeadSays, is_whole, is_cut, is_bad_tag, is_bad_length, head_says, head_only}
 use Rattle.chunks.specs.declared.State.{State}
-use Rattle.chunks.specs.declared.Verdict.{Verdict}
-use Rattle.chunks.specs.declared.fields.Move.TheVariants.{On, Wait, End}
-use Rattle.chunks.specs.Took.{head_took, behind_took, read_in, head_at, took_of}
+use Rattle.chunks.specs.Took.{On, Wait, head_took, behind_took, read_in, head_at, took_of}
 use Rattle.chunks.specs.Heard.{head_line, line_of}
-use Rattle.chunks.proofs.Advances.{wait_on, behind_on}
-
-pub end_wait : {v : Verdict} → End v ≡ Wait → ⊥
-end_wait e = let z : ◌≡◌ {A = ℕ} 0 1 = cc in omega arith
+use Rattle.chunks.proofs.Advances.{behind_on}
 
 -- ---- the tests of a head
 module _ (st : State) (b : Bool) (fs : List Field) where
@@ -65,4 +59,4 @@ module _ (st : State) (xs : List ℕ) where
   -- and so does the line of a field that was taken
   pub line_stays : (n : ℕ) → (took_of st xs).how ≡ On n → (ys : List ℕ) → line_of st (xs ++ ys) ≡ line_of st xs
   unfolding line_of
-  line_stays n e ys = (head_stays_at (λ w. wait_on (sym w ∙ taken_head n e)) ys).1
+  line_stays n e ys = (head_stays_at (λ w. cc (taken_head n e)) ys).1

@@ -4,7 +4,6 @@ use mathlib.Core.Path.{◌≡◌, refl}
 use mathlib.Core.Bool.{Bool, true, false, cond, not}
 use mathlib.Core.List.{List, []}
 use mathlib.Core.Option.{none}
-use native.Mathlib.Omega.{arith}
 use lib.Dec.{eqb}
 use lib.ListN.{drop}
 use borrow.Author.Tests.{eqb-true}
@@ -18,9 +17,6 @@ use Rattle.rules.specs.Form.{Field, of_entry, body_of, number, entry_of}
 use Rattle.rules.specs.Lines.{unless_sensed}
 use Rattle.rules.proofs.Decided.{or_else_none, unless_none}
 use Rattle.rules.proofs.Paces.{pins_senseless}
-
-no_way : {A : Type 0} → false ≡ true → A
-no_way e = let z : ◌≡◌ {A = ℕ} 0 1 = cc in absurd (omega arith)
 
 -- 16 lets it pass
 permitted : (card : Card) (past : Past) (f : Field) → entry_refusal card past (entry_of f) ≡ none → not (is_barred (read_for card past (entry_of f))) ≡ true
@@ -43,7 +39,7 @@ sensed_then false false l v h line = refl
 sensed_then true false awake v h line = refl
 sensed_then true false power_down v h line = refl
 sensed_then true false self_refresh v h line = refl
-sensed_then true false deep v h line = no_way h
+sensed_then true false deep v h line = absurd cc
 
 body_is : (t x : ℕ) (b : Bool) → eqb t 32 ≡ b → of_entry t ≡ true → body_of t x ≡ cond b (pins x) (mr4 x)
 unfolding of_entry body_of

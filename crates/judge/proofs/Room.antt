@@ -23,13 +23,9 @@ use Rattle.bank.proofs.Shares.{is_low}
 use Rattle.bank.proofs.Remembered.{bank_low}
 use Rattle.bank.proofs.Changed.{entry_bank}
 use Rattle.chunks.specs.declared.State.{State}
-use Rattle.chunks.specs.declared.Verdict.{Verdict}
 use Rattle.chunks.specs.declared.What.{What}
-use Rattle.chunks.specs.declared.What.TheVariants.{More, Full, Over}
-use Rattle.chunks.specs.declared.fields.Move.{Move}
-use Rattle.chunks.specs.declared.fields.Move.TheVariants.{On, Wait, End}
-use Rattle.chunks.specs.declared.fields.Took.{Took}
-use Rattle.chunks.specs.Took.{took_as, refused_by, behind_took, took_of}
+use Rattle.chunks.specs.declared.What.TheVariants.{More, Full}
+use Rattle.chunks.specs.Took.{Move, On, Wait, End, Took, took_as, refused_by, behind_took, took_of}
 use Rattle.chunks.specs.Heard.{field_line, head_line, line_of, Heard, heard_from}
 use Rattle.chunks.proofs.Bytes.{Bytes, bytes_part, bytes_drop}
 use Rattle.chunks.proofs.Short.{entry_short}
@@ -87,24 +83,18 @@ module _ {st : State} {fs : List Field} {past : Past} {at : ℕ} (s : Stands st 
   line_if_short false bs b = line_short bs b
 
 -- ---- no run is cut short
-more_full : More ≡ Full → ⊥
-more_full e = let z : ◌≡◌ {A = ℕ} 0 1 = cc in omega arith
-
-over_full : {v : Verdict} → Over v ≡ Full → ⊥
-over_full e = let z : ◌≡◌ {A = ℕ} 0 1 = cc in omega arith
-
 abbrev what : Heard → What
 what h = h.what
 
 pub quiet_goes : (k room : ℕ) (st : State) (bs : List ℕ) → what (heard_from k true room st bs) ≡ Full → ⊥
-quiet_goes zero room st bs = unfold heard_from in more_full
+quiet_goes zero room st bs = λ e. let f : More ≡ Full = unfold heard_from in e in cc
 quiet_goes (suc k) room st bs = go (took_of st bs).how (took_of st bs).state refl (λ r next rest. quiet_goes k r next rest)
   where
     go : (m : Move) (next : State) → took_of st bs ≡ took_as m next → ((r : ℕ) (n : State) (rest : List ℕ) → what (heard_from k true r n rest) ≡ Full → ⊥) →
         what (heard_from (suc k) true room st bs) ≡ Full → ⊥
     go (On n) next e ih z = ih _ next (drop n bs) (sym (ap what (heard_on k true room st bs refl e) ∙ what_behind n [] _) ∙ z)
-    go Wait next e ih z = more_full (sym (ap what (heard_waits k true room st bs refl e)) ∙ z)
-    go (End v) next e ih z = over_full (sym (ap what (heard_ends k true room st bs refl e)) ∙ z)
+    go Wait next e ih z = cc (ap what (heard_waits k true room st bs refl e))
+    go (End v) next e ih z = cc (ap what (heard_ends k true room st bs refl e))
 
 roomy : (q : Bool) (room : ℕ) → 64 ≤ room → (q || leb 64 room) ≡ true
 roomy q room h = rw (le-leb 64 room h, or-true q)
@@ -112,13 +102,13 @@ roomy q room h = rw (le-leb 64 room h, or-true q)
 ended_goes : (k : ℕ) (q : Bool) (room : ℕ) {st : State} {v : FileVerdict} {at : ℕ} (bs : List ℕ) → Ended st v at → 64 ≤ room →
     what (heard_from k q room st bs) ≡ Full → ⊥
 unfolding behind_took refused_by
-ended_goes zero q room bs x h z = more_full (unfold heard_from in z)
-ended_goes (suc k) q room {st} [] x h z = more_full (sym (ap what (heard_waits k q room st [] (roomy q room h) (behind_took_lem x []))) ∙ z)
-ended_goes (suc k) q room {st} (b ∷ bs) x h z = over_full (sym (ap what (heard_ends k q room st (b ∷ bs) (roomy q room h) (behind_took_lem x (b ∷ bs)))) ∙ z)
+ended_goes zero q room bs x h z = let f : More ≡ Full = unfold heard_from in z in cc
+ended_goes (suc k) q room {st} [] x h z = cc (ap what (heard_waits k q room st [] (roomy q room h) (behind_took_lem x [])))
+ended_goes (suc k) q room {st} (b ∷ bs) x h z = cc (ap what (heard_ends k q room st (b ∷ bs) (roomy q room h) (behind_took_lem x (b ∷ bs))))
 
 pub roomy_goes : (k : ℕ) (q : Bool) (room : ℕ) {st : State} {fs : List Field} {past : Past} {at : ℕ} (bs : List ℕ) → Stands st fs past at → Bytes bs →
     64 + 64 * length bs ≤ room → what (heard_from k q room st bs) ≡ Full → ⊥
-roomy_goes zero q room bs s b h = unfold heard_from in more_full
+roomy_goes zero q room bs s b h = λ z. let f : More ≡ Full = unfold heard_from in z in cc
 roomy_goes (suc k) q room {st} {fs} {past} {at} bs s b h = go (moves s bs b) refl (λ r' st' fs' past' at' cs s' c l. roomy_goes k q r' cs s' c l)
   where
     Later : Type 0
@@ -132,8 +122,8 @@ roomy_goes (suc k) q room {st} {fs} {past} {at} bs s b h = go (moves s bs b) ref
     line = line_if_short s q bs b
 
     go : {t : Took} {x : Step} → Moves st past at bs t x → took_of st bs ≡ t → Later → what (heard_from (suc k) q room st bs) ≡ Full → ⊥
-    go waits e ih z = more_full (sym (ap what (heard_waits k q room st bs room_is e)) ∙ z)
-    go (stopped v) e ih z = over_full (sym (ap what (heard_ends k q room st bs room_is e)) ∙ z)
+    go waits e ih z = cc (ap what (heard_waits k q room st bs room_is e))
+    go (stopped v) e ih z = cc (ap what (heard_ends k q room st bs room_is e))
     go (goes n {next} {fs'} {past'} {at'} lo hi s' l) e ih z =
         ih _ next fs' past' at' (drop n bs) s' (bytes_drop n bs b) (rw length-drop (omega (arith, line)))
         (sym (ap what (heard_on k q room st bs room_is e) ∙ what_behind n (line_if q st bs) _) ∙ z)

@@ -24,8 +24,7 @@ use Rattle.bank.specs.Values.{fresh_of}
 use Rattle.bank.proofs.Beginning.{fresh_lent}
 use Rattle.step.proofs.Arrays.{fresh_whole}
 use Rattle.chunks.specs.declared.State.{State}
-use Rattle.chunks.specs.declared.fields.Move.TheVariants.{On}
-use Rattle.chunks.specs.Took.{took_as, refused_here, card_after, card_took, field_took}
+use Rattle.chunks.specs.Took.{On, took_as, refused_here, card_after, card_took, field_took}
 use Rattle.judge.proofs.Overflow.{size_small}
 use Rattle.judge.proofs.Counts.{none_counted}
 use Rattle.judge.proofs.Stands.{Stands, has_begun, offset_behind}

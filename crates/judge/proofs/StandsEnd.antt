@@ -32,9 +32,8 @@ use Rattle.bank.specs.declared.Record.{Record}
 use Rattle.bank.specs.Values.{share_of, share_at, lent_of}
 use Rattle.bank.proofs.Shares.{share_in_lem, first_is, second_is}
 use Rattle.chunks.specs.declared.State.{State}
-use Rattle.chunks.specs.declared.fields.Move.TheVariants.{On}
 use Rattle.chunks.specs.Values.{verdict_of}
-use Rattle.chunks.specs.Took.{took_as, wrapped, refused_here, record_closed, ledgers_end, end_after, end_took, field_took}
+use Rattle.chunks.specs.Took.{On, took_as, wrapped, refused_here, record_closed, ledgers_end, end_after, end_took, field_took}
 use Rattle.chunks.specs.Heard.{owed_of, ended_at}
 use Rattle.judge.proofs.Overflow.{size_small}
 use Rattle.judge.proofs.Stands.{Stands, far_below, offset_behind}

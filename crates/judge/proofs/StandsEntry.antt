@@ -29,8 +29,7 @@ use Rattle.step.specs.Values.{record_with}
 use Rattle.step.specs.Runs.{commands_by, refreshes_by}
 use Rattle.step.proofs.Kept.{Good, lent_with, good_with}
 use Rattle.chunks.specs.declared.State.{State}
-use Rattle.chunks.specs.declared.fields.Move.TheVariants.{On}
-use Rattle.chunks.specs.Took.{took_as, wrapped, refused_here, entry_after, entry_refused, entry_took, field_took}
+use Rattle.chunks.specs.Took.{On, took_as, wrapped, refused_here, entry_after, entry_refused, entry_took, field_took}
 use Rattle.chunks.specs.Heard.{field_line}
 use Rattle.chunks.proofs.Bytes.{Bytes}
 use Rattle.chunks.proofs.Wraps.{wrapped_is}
@@ -47,9 +46,6 @@ one_command false m n e h = wrapped_is (m + 1) (omega arith) ∙ omega arith
 one_counted : (b : Bool) (m n : ℕ) → m ≡ n → n < 2 ^ 33 → wrapped (m + cond b 1 0) ≡ n + cond b 1 0
 one_counted true m n e h = wrapped_is (m + 1) (omega arith) ∙ omega arith
 one_counted false m n e h = wrapped_is (m + 0) (omega arith) ∙ omega arith
-
-not_both : {b : Bool} → b ≡ true → b ≡ false → ⊥
-not_both p q = let z : ◌≡◌ {A = ℕ} 0 1 = cc in omega arith
 
 -- ---- a record that stands for a past: what it says of the part that judges an entry
 module _ (card : Card) (past : Past) (e : Entry) where
@@ -152,7 +148,7 @@ module _ {st : State} {fs : List Field} {past : Past} {at : ℕ} (s : Stands st 
             arrays = (good_with st.rec (entry_of f) good passed).arrays;
             lent = lent_is;
             taken = (step_keeps (card_of fs) past unmoved in_range s.taken paid (entry_of f) standing_passed).0;
-            first = λ e. absurd (not_both w e);
+            first = λ e. absurd cc;
             small = unfold past_with taken_for taken in stamp_small f b;
             commands = commands_next;
             refreshes = refreshes_next;

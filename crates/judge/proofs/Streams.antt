@@ -11,9 +11,8 @@ use Rattle.chunks.specs.declared.State.{State}
 use Rattle.chunks.specs.declared.Verdict.{Verdict}
 use Rattle.chunks.specs.declared.What.{What}
 use Rattle.chunks.specs.declared.What.TheVariants.{More, Full, Over}
-use Rattle.chunks.specs.declared.fields.Move.TheVariants.{Wait}
 use Rattle.chunks.specs.Values.{verdict_of}
-use Rattle.chunks.specs.Took.{took_of}
+use Rattle.chunks.specs.Took.{Wait, took_of}
 use Rattle.chunks.specs.Heard.{start_of, heard_of, finished_of}
 use Rattle.chunks.proofs.Bytes.{Bytes}
 use Rattle.chunks.proofs.Walks.{walk}

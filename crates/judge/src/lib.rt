@@ -7,6 +7,7 @@ ghost use Rattle.chunks.specs.Values.{verdict_of};
 
 use chunks::Verdict;
 
+#[tactic(auto, using(crate::proofs::Whole::judged_is, chunks::proofs::Bytes::bytes_by))]
 pub fn judge(file: &[u8]) -> Verdict
     ensures { verdict_of result ≡ judge_file file.now }
 {

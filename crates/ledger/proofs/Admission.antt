@@ -1,83 +1,122 @@
--- 13 and 5, which every question about a lent ledger begins with.
-use Prim.Native.Nat.{ℕ, ◌≤◌, ◌<◌}
-use mathlib.Core.Path.{◌≡◌, refl, sym, ◌∙◌}
-use mathlib.Core.Logic.{◌⊎◌, inl, inr}
-use mathlib.Core.Bool.{Bool, true, false}
+-- 13 and 5, which every question about a lent ledger begins with, and what a caller is told in the end.
+use Prim.Native.Nat.{ℕ, suc, ◌+◌, ◌≤◌, ◌<◌}
+use mathlib.Core.Path.{◌≡◌, refl, ap, sym, ◌∙◌}
+use mathlib.Core.Bool.{Bool, true, false, ◌&&◌}
 use mathlib.Core.List.{List, ◌∷◌}
-use mathlib.Core.Option.{Option, some}
+use mathlib.Core.Option.{Option, none, some}
+use Rattle.std.specs.Prelude.{Result, Ok, Err}
 use native.Mathlib.Omega.{arith}
 use lib.Dec.{leb}
 use borrow.Author.Tests.{le-leb, lt-leb, leb-true}
 use Rattle.rules.specs.Card.{Card}
 use Rattle.rules.specs.Folds.{or_else, first_of}
-use Rattle.rules.specs.Checks.{Refusal, refusal, unless}
+use Rattle.rules.specs.Account.{Beat}
+use Rattle.rules.specs.Checks.{refusal, unless, named}
+use Rattle.rules.specs.Checks as checks
 use Rattle.rules.specs.Ranges.{card_good}
-use Rattle.rules.specs.Lent.{Ledger, number_of, since_good, ledger_good}
-use Rattle.rules.proofs.Tests.{le_cases, both_true}
+use Rattle.rules.specs.Lent.{number_of, since_good, ledger_good}
+use Rattle.rules.specs.Lent as lent
+use Rattle.rules.proofs.Tests.{both_true}
+use Rattle.rules.proofs.Decided.{or_none, or_assoc, unless_none}
 use Rattle.rules.proofs.Taken.{owing_biased}
-use Rattle.ledger.specs.Values.{ledger_of}
-use Rattle.ledger.specs.Parts.{admitted}
+use Rattle.ledger.specs.declared.Refusal.{Refusal}
 use Rattle.ledger.specs.declared.Ledger as code
+use Rattle.ledger.specs.declared.account.Account.{Account}
+use Rattle.ledger.specs.Values.{ledger_of, refusal_of, unless_refused, Left}
+use Rattle.ledger.specs.Parts.{beat_as, Checked, Opened, admission, after_of}
 
-module _ (card : Card) (g : Ledger) (t : ℕ) where
-  -- as the code finds the number
-  pub not_sound : ledger_good card g ≡ false → 13 ≡ admitted card g t
-  unfolding admitted
-  not_sound e = rw e
+module _ (card : Card) (g : lent.Ledger) (t : ℕ) where
+  pub not_good : (x : checks.Refusal) → unless (ledger_good card g) 13 ≡ some x → admission card g t ≡ some x
+  unfolding admission first_of or_else
+  not_good x e = rw e
 
-  pub too_early : ledger_good card g ≡ true → t < g.at → 5 ≡ admitted card g t
-  unfolding admitted
-  too_early e h = rw (e, lt-leb g.at t h)
+  pub too_early : unless (ledger_good card g) 13 ≡ none → t < g.at → admission card g t ≡ some (refusal 5 0 0)
+  unfolding admission first_of or_else unless
+  too_early e h = rw (unless_none _ _ e, lt-leb g.at t h)
 
-  pub in_order : ledger_good card g ≡ true → g.at ≤ t → 0 ≡ admitted card g t
-  unfolding admitted
-  in_order e h = rw (e, le-leb g.at t h)
+  pub in_order : unless (ledger_good card g) 13 ≡ none → g.at ≤ t → admission card g t ≡ none
+  unfolding admission first_of or_else unless
+  in_order e h = rw (unless_none _ _ e, le-leb g.at t h)
 
-  -- what the number says of a list of checks that begins with 13 and 5
-  abbrev pub checked : List (Option Refusal) → Option Refusal
-  checked rest = first_of (unless (ledger_good card g) 13 ∷ unless (leb g.at t) 5 ∷ rest)
+  -- the checks that begin with the two
+  pub admission_first : (rest : List (Option checks.Refusal)) →
+      first_of (unless (ledger_good card g) 13 ∷ unless (leb g.at t) 5 ∷ rest) ≡ or_else (admission card g t) (first_of rest)
+  unfolding admission first_of
+  admission_first rest = sym (or_assoc _ _ _) ∙ ap (λ z. or_else z (first_of rest)) (ap (or_else _) (sym (or_none _)))
 
-  pub record Stood : Type 0 where
-    pub good : ledger_good card g ≡ true
-    pub later : g.at ≤ t
+-- what an account answers is what is told of the ledger
+checked_so : {A : Type 0} (o u : Option checks.Refusal) (P Q : A → Type 0) (r : Result A Refusal) → u ≡ o → ((x : A) → P x → Q x) → Checked o P r → Checked u Q r
+checked_so o u P Q (Ok x) e f c = (e ∙ c.0, f x c.1)
+checked_so o u P Q (Err y) e f c = e ∙ c
 
-  data Admission : Type 0 where
-    thirteen : admitted card g t ≡ 13 → ((rest : List (Option Refusal)) → checked rest ≡ some (refusal 13 0 0)) → Admission
-    five : admitted card g t ≡ 5 → ((rest : List (Option Refusal)) → checked rest ≡ some (refusal 5 0 0)) → Admission
-    neither : admitted card g t ≡ 0 → Stood → ((rest : List (Option Refusal)) → checked rest ≡ first_of rest) → Admission
+module _ (card : Card) (p : lent.Pace) (g : code.Ledger) (t : ℕ) where
+  abbrev b : Beat
+  b = lent.beat_of card p
 
-  admission : Admission
-  unfolding admitted first_of or_else unless
-  admission = go (ledger_good card g) refl (le_cases g.at t)
-    where
-      go : (x : Bool) → ledger_good card g ≡ x → ((g.at ≤ t) × (leb g.at t ≡ true)) ⊎ ((t < g.at) × (leb g.at t ≡ false)) → Admission
-      go false e c = thirteen (rw e) (λ rest. rw e)
-      go true e (inl p) = neither (rw (e, p.1)) (record { good = e; later = p.0 }) (λ rest. rw (e, p.1))
-      go true e (inr p) = five (rw (e, p.1)) (λ rest. rw (e, p.1))
+  pub move_refused : (y : checks.Refusal) → admission card (ledger_of g) t ≡ some y → lent.move_refusal card p (ledger_of g) t ≡ some y
+  unfolding lent.move_refusal or_else
+  move_refused y e = admission_first card (ledger_of g) t _ ∙ rw e
 
-  pub refused_13 : admitted card g t ≡ 13 → (rest : List (Option Refusal)) → checked rest ≡ some (refusal 13 0 0)
-  refused_13 e = go admission
-    where
-      go : Admission → (rest : List (Option Refusal)) → checked rest ≡ some (refusal 13 0 0)
-      go (thirteen n c) = c
-      go (five n c) = absurd (omega arith)
-      go (neither n s c) = absurd (omega arith)
+  pub enter_refused : (x : lent.Effect) (y : checks.Refusal) → admission card (ledger_of g) t ≡ some y → lent.enter_refusal x card p (ledger_of g) t ≡ some y
+  unfolding lent.enter_refusal or_else
+  enter_refused x y e = admission_first card (ledger_of g) t _ ∙ rw e
 
-  pub refused_5 : admitted card g t ≡ 5 → (rest : List (Option Refusal)) → checked rest ≡ some (refusal 5 0 0)
-  refused_5 e = go admission
-    where
-      go : Admission → (rest : List (Option Refusal)) → checked rest ≡ some (refusal 5 0 0)
-      go (thirteen n c) = absurd (omega arith)
-      go (five n c) = c
-      go (neither n s c) = absurd (omega arith)
+  module _ (e : admission card (ledger_of g) t ≡ none) (a : Account) (o : Opened card p g a) (r : Result code.Ledger Refusal) where
+    pub move_so : (u : ℕ) → u ≡ t →
+        Checked (named 11 (lent.failing_to (beat_as a.beat) (ledger_of a.ledger) (u + 1))) (λ h. ledger_of h ≡ lent.ledger_to (beat_as a.beat) (ledger_of a.ledger) t) r →
+        Checked (lent.move_refusal card p (ledger_of g) t) (λ h. ledger_of h ≡ lent.moved_on card p (ledger_of g) t) r
+    unfolding lent.moved_on
+    move_so u s c = checked_so _ _ _ _ r refusal_is (λ x q. q) (rw (o.ledger, o.beat, same) at c)
+      where
+        same : u + 1 ≡ suc t
+        same = omega arith
 
-  pub not_refused : (admitted card g t ≡ 13 → ⊥) → (admitted card g t ≡ 5 → ⊥) → Stood × ((rest : List (Option Refusal)) → checked rest ≡ first_of rest)
-  not_refused a b = go admission
-    where
-      go : Admission → Stood × ((rest : List (Option Refusal)) → checked rest ≡ first_of rest)
-      go (thirteen n c) = absurd (a n)
-      go (five n c) = absurd (b n)
-      go (neither n s c) = (s, c)
+        refusal_is : lent.move_refusal card p (ledger_of g) t ≡ named 11 (lent.failing_to b (ledger_of g) (suc t))
+        refusal_is = unfold lent.move_refusal in (admission_first card (ledger_of g) t _ ∙ (unfold or_else first_of in rw (e, or_none)))
+
+    pub enter_so : (x : lent.Effect) →
+        Checked
+        (or_else (named 11 (lent.failing_to (beat_as a.beat) (ledger_of a.ledger) t))
+        (named 11 (lent.failing_of (beat_as a.beat) (lent.entered x (beat_as a.beat) (ledger_of a.ledger) t))))
+        (λ h. ledger_of h ≡ lent.entered x (beat_as a.beat) (ledger_of a.ledger) t) r →
+        Checked (lent.enter_refusal x card p (ledger_of g) t) (λ h. ledger_of h ≡ lent.entered x b (ledger_of g) t) r
+    enter_so x c = checked_so _ _ _ _ r refusal_is (λ x q. q) (rw (o.ledger, o.beat) at c)
+      where
+        refusal_is : lent.enter_refusal x card p (ledger_of g) t
+            ≡ or_else (named 11 (lent.failing_to b (ledger_of g) t)) (named 11 (lent.failing_of b (lent.entered x b (ledger_of g) t)))
+        refusal_is = unfold lent.enter_refusal in (admission_first card (ledger_of g) t _ ∙ (unfold or_else first_of in rw (e, or_none)))
+
+-- the ledger is as it was, where it is refused
+pub left_by : (o : Option checks.Refusal) (new : lent.Ledger) (g : code.Ledger) (r : Result code.Ledger Refusal) → Checked o (λ h. ledger_of h ≡ new) r →
+    Left o (ledger_of g) new (after_of g r)
+unfolding refusal_of unless_refused
+left_by o new g (Ok h) p = record { told = sym p.0; ledger = rw p.0 p.1 }
+left_by o new g (Err e) p = record { told = sym p; ledger = rw p refl }
+
+-- what 13 asks of a ledger, as the code finds it
+module _ (card : Card) (g : code.Ledger) where
+  abbrev good : Bool
+  good = ledger_good card (ledger_of g)
+
+  good_is : good ≡ (card_good card && leb g.owed 16 && leb g.since (number_of (ledger_of g)))
+  unfolding ledger_good since_good ledger_of
+  good_is = rw (owing_biased g.owed)
+
+  pub good_so : card_good card ≡ true → g.owed ≤ 16 → g.since ≤ number_of (ledger_of g) → unless good 13 ≡ none
+  unfolding unless
+  good_so r o s = rw (good_is, r, le-leb g.owed 16 o, le-leb g.since (number_of (ledger_of g)) s)
+
+  pub bad_range : card_good card ≡ false → unless good 13 ≡ some (refusal 13 0 0)
+  unfolding unless
+  bad_range r = rw (good_is, r)
+
+  pub bad_owed : card_good card ≡ true → 16 < g.owed → unless good 13 ≡ some (refusal 13 0 0)
+  unfolding unless
+  bad_owed r o = rw (good_is, r, lt-leb g.owed 16 o)
+
+  pub bad_since : card_good card ≡ true → g.owed ≤ 16 → number_of (ledger_of g) < g.since → unless good 13 ≡ some (refusal 13 0 0)
+  unfolding unless
+  bad_since r o s = rw (good_is, r, le-leb g.owed 16 o, lt-leb g.since (number_of (ledger_of g)) s)
 
 -- what is known of a ledger that 13 lets pass
 module _ (card : Card) (g : code.Ledger) where

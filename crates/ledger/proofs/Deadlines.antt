@@ -3,31 +3,34 @@ use Prim.Native.Nat.{ℕ, suc, ◌+◌, ◌-◌, ◌*◌, ◌≤◌, ◌<◌}
 use mathlib.Core.Path.{◌≡◌, refl, ap, sym, ◌∙◌}
 use mathlib.Core.Bool.{Bool, true, false, cond, not, ◌&&◌}
 use mathlib.Core.Option.{none, some}
-use mathlib.Core.Logic.{⊎_elim}
 use native.Mathlib.Nat.{add-mul}
 use native.Mathlib.Omega.{arith}
-use lib.Dec.{leb, ltb}
+use lib.Dec.{leb}
 use lib.IntN.{sub_ℕ}
 use borrow.Author.Tests.{le-leb}
 use Rattle.rules.specs.Levels.{stopped}
 use Rattle.rules.specs.Account.{lpddr3, Beat, fallen, next_after, steady, failing, idle, first_idle}
 use Rattle.rules.specs.Lent.{number_of, beat_of, since_good, ledger_good, counted_to, ledger_to, failing_to, failing_of}
-use Rattle.rules.proofs.Tests.{lt_cases}
-use Rattle.rules.proofs.Decided.{or_else_none}
+use Rattle.rules.specs.Checks.{unless}
+use Rattle.rules.specs.Checks as checks
+use Rattle.rules.proofs.Tests.{some_none}
+use Rattle.rules.proofs.Decided.{or_else_none, unless_none}
 use Rattle.rules.proofs.Idle.{owed_at, idle_beat}
 use Rattle.rules.proofs.Beats.{interval_least}
-use Rattle.rules.proofs.Clocked.{relabel}
-use Rattle.rules.proofs.Closed.{first_among, failing_through}
-use Rattle.rules.proofs.Ledgers.{number_to, none_yet}
+use Rattle.rules.proofs.Ledgers.{number_to}
 use Rattle.rules.proofs.Taken.{owing_biased}
 use Rattle.card.specs.Values.{card_of}
 use Rattle.card.specs.declared.Card.{Card}
 use Rattle.pins.specs.Values.{level_of}
 use Rattle.ledger.specs.declared.Ledger.{Ledger}
 use Rattle.ledger.specs.declared.Pace.{Pace}
+use Rattle.ledger.specs.declared.account.Account.{Account}
+use Rattle.ledger.specs.declared.account.First.{First}
 use Rattle.ledger.specs.Values.{ledger_of, pace_of, stored, code_of, over_at, late_at, closed_at, deadline_by, deadline_of}
+use Rattle.ledger.specs.Parts.{beat_as, Opened, Failing}
 use Rattle.ledger.proofs.Admission.{Sound, sound_when}
-use Rattle.ledger.proofs.Closing.{closed_ahead, past_le, within, none_by, fails_by}
+use Rattle.ledger.proofs.Closing.{closed_ahead, past_le, within}
+use Rattle.ledger.proofs.Moves.{running_counts, running_none, running_fails}
 use Rattle.ledger.proofs.Promises.{stored_is, level_is}
 
 below : (x y : Bool) (n t : ℕ) → t < cond (x && not y) n 0 → (x ≡ true) × (y ≡ false) × (t < n)
@@ -38,10 +41,6 @@ below false y n t h = absurd (omega arith)
 over_is : (b : Beat) (n k : ℕ) → next_after b n + k * b.span ≡ b.next + (fallen b n + k) * b.span
 unfolding next_after
 over_is b n k = rw (add-mul (fallen b n) k b.span) (omega arith)
-
-pub by_so : (b : Beat) (g : Ledger) (n x : ℕ) → n ≡ number_of (ledger_of g) → x ≡ closed_at b n g.owed g.since → g.at + (x - n) ≡ deadline_by b g
-unfolding deadline_by
-by_so b g n x en ex = rw (ex, en)
 
 module _ (card : Card) (pace : Pace) (g : Ledger) where
   abbrev b : Beat
@@ -64,58 +63,53 @@ module _ (card : Card) (pace : Pace) (g : Ledger) where
   halted = stopped (level_of g.level)
 
   -- as the code finds the deadline
-  pub not_sound : good ≡ false → 0 ≡ deadline_of card pace g
-  unfolding deadline_of
-  not_sound e = rw e
+  pub not_sound : (x : checks.Refusal) → unless good 13 ≡ some x → 0 ≡ deadline_of card pace g
+  unfolding deadline_of unless
+  not_sound x e = go good refl
+    where
+      go : (y : Bool) → good ≡ y → 0 ≡ deadline_of card pace g
+      go false w = rw w
+      go true w = absurd (some_none (rw w at e))
 
-  pub not_running : good ≡ true → halted ≡ true → 0 ≡ deadline_of card pace g
+  not_running : halted ≡ true → 0 ≡ deadline_of card pace g
   unfolding deadline_of
-  not_running e h = rw (e, h)
+  not_running h = rw h (go good)
+    where
+      go : (y : Bool) → 0 ≡ cond (y && false) (deadline_by b g) 0
+      go false = refl
+      go true = refl
 
-  pub running : good ≡ true → halted ≡ false → deadline_by b g ≡ deadline_of card pace g
+  running : good ≡ true → halted ≡ false → deadline_by b g ≡ deadline_of card pace g
   unfolding deadline_of
   running e h = rw (e, h)
 
-  -- each cycle counts
-  counts : halted ≡ false → (t : ℕ) → counted_to (ledger_of g) t ≡ t - g.at
-  unfolding counted_to ledger_of
-  counts h t = rw h
+  module _ (a : Account) (o : Opened (card_of card) (pace_of pace) g a) where
+    pub halted_so : stopped (level_of a.ledger.level) ≡ true → 0 ≡ deadline_of card pace g
+    halted_so h = not_running (rw o.ledger at h)
+
+    pub running_so : unless good 13 ≡ none → (x : First) → Failing (beat_as a.beat) a.ledger x → x.cycle ≡ deadline_of card pace g
+    running_so e x f = f.cycle ∙ rw (o.ledger, o.beat) (running (unless_none _ _ e) (rw o.ledger at f.runs))
 
   -- ---- of a ledger that 13 lets pass, and whose cycles count
   module _ (ok : good ≡ true) (runs : halted ≡ false) where
     s : Sound (card_of card) g
     s = sound_when (card_of card) g ok
 
+    is : deadline_of card pace g ≡ deadline_by b g
+    is = sym (running ok runs)
+
+    is_at : deadline_of card pace g ≡ g.at + (closed - n)
+    is_at = is ∙ (unfold deadline_by in refl)
+
     ahead : n < closed
     ahead = closed_ahead b n g.owed g.since spanned
 
-    is : deadline_of card pace g ≡ g.at + (closed - n)
-    is = sym (running ok runs) ∙ (unfold deadline_by in refl)
-
-    through : (t : ℕ) → failing_to b (ledger_of g) (suc t) ≡ first_among b (ledger_of g) (t - g.at)
-    through t = rw (counts runs t) at (failing_through b (ledger_of g) t)
-
-    none_until : (t : ℕ) → t < deadline_of card pace g → failing_to b (ledger_of g) (suc t) ≡ none
-    unfolding ledger_of
-    none_until t h =
-        let l : n + (t - g.at) < closed = omega (arith, is, ahead) in
-        through t ∙ rw (none_by b n g.owed g.since spanned s.low (t - g.at) l) (unfold relabel in refl)
-
     pub none_before : (t : ℕ) → t ≤ deadline_of card pace g → failing_to b (ledger_of g) t ≡ none
-    none_before t h = ⊎_elim
-        (λ (p : (g.at < t) × (ltb g.at t ≡ true)).
-        let u : suc (t - 1) ≡ t = omega arith in
-        rw u at (none_until (t - 1) (omega arith)))
-        (λ (p : (t ≤ g.at) × (ltb g.at t ≡ false)). none_yet b (ledger_of g) t (unfold ledger_of in omega arith))
-        (lt_cases g.at t)
+    none_before t h = running_none b g spanned s.low runs t (rw is at h)
 
     pub one_there : failing_to b (ledger_of g) (suc (deadline_of card pace g))
         ≡ some (cond (leb (over_at b n g.owed) (late_at b.span n g.since)) 19 20, deadline_of card pace g)
-    unfolding ledger_of
-    one_there =
-        let z : g.at + (closed - n) - g.at ≡ closed - n = omega arith in
-        let f = fails_by b n g.owed g.since spanned s.low (closed - n) (omega (arith, ahead)) in
-        rw is (through (g.at + (closed - n)) ∙ rw (z, f) (unfold relabel in refl))
+    one_there = rw is (running_fails b g spanned s.low runs (suc (deadline_by b g)) (omega arith))
 
   -- 19 and 20 where it comes to stand
   here_is : (t : ℕ) → g.at ≤ t → failing_of b (ledger_to b (ledger_of g) t)
@@ -133,7 +127,7 @@ module _ (card : Card) (pace : Pace) (g : Ledger) where
     sound = sound_when (card_of card) g parts.0
 
     pub none_failing : failing_to b (ledger_of g) (suc t) ≡ none
-    none_failing = none_until parts.0 parts.1 t early
+    none_failing = none_before parts.0 parts.1 (suc t) (omega arith)
 
     idle_none : g.at < t → first_idle lpddr3 (steady b) (sub_ℕ g.owed 8) g.since n g.at (suc (t - suc g.at)) ≡ none
     unfolding failing_to ledger_of
@@ -146,14 +140,14 @@ module _ (card : Card) (pace : Pace) (g : Ledger) where
 
     pub none_here : g.at < t → (failing_to b (ledger_of g) t ≡ none) × (failing_of b (ledger_to b (ledger_of g) t) ≡ none)
     none_here h =
-        let m : counted_to (ledger_of g) t ≡ suc (t - suc g.at) = counts parts.1 t ∙ omega arith in
+        let m : counted_to (ledger_of g) t ≡ suc (t - suc g.at) = running_counts g parts.1 t ∙ omega arith in
         (none_before parts.0 parts.1 t (omega arith), here_is t later ∙ rw m (last_none h))
 
     abbrev m : ℕ
     m = n + (t - g.at)
 
     before : m < closed
-    before = omega (arith, early, is parts.0 parts.1, ahead parts.0 parts.1)
+    before = omega (arith, early, is_at parts.0 parts.1, ahead parts.0 parts.1)
 
     abbrev owed : ℕ
     owed = g.owed + (fallen b m - fallen b n)
@@ -173,7 +167,7 @@ module _ (card : Card) (pace : Pace) (g : Ledger) where
     reaches = λ i. record { at = t; owed = owing i; since = g.since; skipped = t - number i; level = level_is g.level i }
       where
         number : number_of (ledger_of g) + counted_to (ledger_of g) t ≡ m
-        number = ap (λ (j : ℕ). number_of (ledger_of g) + j) (counts parts.1 t)
+        number = ap (λ (j : ℕ). number_of (ledger_of g) + j) (running_counts g parts.1 t)
 
         owing : stored (idle 8 (steady b) (sub_ℕ g.owed 8) (number_of (ledger_of g)) (counted_to (ledger_of g) t)) ≡ owed
         owing =
@@ -201,4 +195,4 @@ module _ (card : Card) (pace : Pace) (g : Ledger) where
     same_deadline =
         let x : deadline_by b there ≡ t + (closed - m) = unfold deadline_by in rw (number_there, closed_there) in
         let y : deadline_of card pace there ≡ deadline_by b there = unfold deadline_of in rw (good_there, parts.1) in
-        ap (deadline_of card pace) reaches ∙ y ∙ x ∙ omega (arith, before, later, is parts.0 parts.1)
+        ap (deadline_of card pace) reaches ∙ y ∙ x ∙ omega (arith, before, later, is_at parts.0 parts.1)

@@ -1,7 +1,7 @@
 -- An entry's own cycle, as its promise says it.
 use Prim.Native.Nat.{ℕ, ◌+◌, ◌-◌, ◌*◌, ◌≤◌, ◌<◌}
 use mathlib.Core.Path.{◌≡◌, refl, ap, sym, ◌∙◌}
-use mathlib.Core.Bool.{Bool, true, false, cond, not, ◌||◌}
+use mathlib.Core.Bool.{Bool, true, false, cond, ◌||◌}
 use mathlib.Core.Option.{Option, none, some}
 use native.Mathlib.Omega.{arith}
 use lib.IntN.{sub_ℕ}
@@ -10,7 +10,8 @@ use Rattle.rules.specs.Levels.{level_after}
 use Rattle.rules.specs.Levels as levels
 use Rattle.rules.specs.Account.{lpddr3, Beat, steady}
 use Rattle.rules.specs.Folds.{or_else}
-use Rattle.rules.specs.Checks.{Refusal, refusal, named}
+use Rattle.rules.specs.Checks.{named}
+use Rattle.rules.specs.Checks as checks
 use Rattle.rules.specs.Lent.{number_of, ledger_to, refreshed_at, sensed_at, at_level, failing_to, failing_of}
 use Rattle.rules.specs.Lent as lent
 use Rattle.rules.proofs.Biased.{take_biased, owing, failing_biased}
@@ -18,30 +19,8 @@ use Rattle.pins.specs.Values.{level_of, moved_of}
 use Rattle.pins.specs.declared.Level.{Level}
 use Rattle.ledger.specs.declared.Ledger.{Ledger}
 use Rattle.ledger.specs.declared.Effect.{Effect}
-use Rattle.ledger.specs.declared.Answer.TheVariants.{Done}
-use Rattle.ledger.specs.declared.After.{After}
-use Rattle.ledger.specs.Values.{ledger_of, effect_of, refusal_of, is_none, unless_refused, Left}
-use Rattle.ledger.specs.Parts.{until, changed_by, account_of, new_of}
-
--- what an answer that is a refusal, and one that is none, says of the promise
-pub refused_left : (o : Option Refusal) (old new : lent.Ledger) (r : After) → Left o old new r → is_none (refusal_of r.answer) ≡ false →
-    (p : Option Refusal) → ((x : Refusal) → o ≡ some x → p ≡ some x) → (other : lent.Ledger) → Left p old other r
-unfolding is_none unless_refused
-refused_left o old new r l n p same other = go o l.told l.ledger same
-  where
-    go : (o : Option Refusal) → refusal_of r.answer ≡ o → ledger_of r.ledger ≡ unless_refused o old new →
-        ((x : Refusal) → o ≡ some x → p ≡ some x) → Left p old other r
-    go none t g s = let e : true ≡ false = sym (ap is_none t) ∙ n in let z : ◌≡◌ {A = ℕ} 0 1 = cc in absurd (omega arith)
-    go (some x) t g s = record { told = t ∙ sym (s x refl); ledger = rw (s x refl) g }
-
-pub stood_left : (o : Option Refusal) (old new : lent.Ledger) (r : After) → Left o old new r → is_none (refusal_of r.answer) ≡ true →
-    (o ≡ none) × (ledger_of r.ledger ≡ new)
-unfolding is_none unless_refused
-stood_left o old new r l n = go o l.told l.ledger
-  where
-    go : (o : Option Refusal) → refusal_of r.answer ≡ o → ledger_of r.ledger ≡ unless_refused o old new → (o ≡ none) × (ledger_of r.ledger ≡ new)
-    go none t g = (refl, g)
-    go (some x) t g = let e : false ≡ true = sym (ap is_none t) ∙ n in let z : ◌≡◌ {A = ℕ} 0 1 = cc in absurd (omega arith)
+use Rattle.ledger.specs.Values.{ledger_of, effect_of}
+use Rattle.ledger.specs.Parts.{changed_by}
 
 -- ---- what an entry does there
 changes : (c s : Bool) (v : levels.Level) (g : Ledger) → at_level v (sensed_at s (refreshed_at c (ledger_of g)))
@@ -73,34 +52,6 @@ pub entered_there : (x : lent.Effect) (b : Beat) (g : lent.Ledger) (t : ℕ) →
 unfolding changed_by lent.entered ledger_to
 entered_there x b g t = refl
 
--- the account alone: where the ledger came to, and what an entry does there
-module _ (g : Ledger) (x : lent.Effect) (b : Beat) (t : ℕ) (entry : Bool) (r : After)
-    (l : Left (named 11 (failing_to b (ledger_of g) (until (not entry) t))) (ledger_of g) (ledger_to b (ledger_of g) t) r)
-    (done : Bool) (e : done ≡ is_none (refusal_of r.answer)) where
-  abbrev Gone : Bool → After → Type 0
-  Gone y = Left (account_of y x b (ledger_of g) t) (ledger_of g) (new_of y x b (ledger_of g) t)
-
-  pub stays_so : (not entry || not done) ≡ true → Gone entry r
-  unfolding account_of new_of until or_else
-  stays_so = go entry done l e
-    where
-      go : (y d : Bool) → Left (named 11 (failing_to b (ledger_of g) (until (not y) t))) (ledger_of g) (ledger_to b (ledger_of g) t) r →
-          d ≡ is_none (refusal_of r.answer) → (not y || not d) ≡ true → Gone y r
-      go false d k n h = k
-      go true false k n h = refused_left _ _ _ r k (sym n) _ (λ z q. rw q) _
-      go true true k n h = let z : ◌≡◌ {A = ℕ} 0 1 = cc in absurd (omega arith)
-
-  pub changes_so : (not entry || not done) ≡ false → (h : Ledger) → ledger_of h ≡ changed_by x (ledger_of r.ledger) →
-      (k : After) → Left (named 11 (failing_of b (ledger_of h))) (ledger_of g) (ledger_of h) k → Gone entry k
-  unfolding account_of new_of until or_else
-  changes_so n h eh k kept = go entry done l e n
-    where
-      go : (y d : Bool) → Left (named 11 (failing_to b (ledger_of g) (until (not y) t))) (ledger_of g) (ledger_to b (ledger_of g) t) r →
-          d ≡ is_none (refusal_of r.answer) → (not y || not d) ≡ false → Gone y k
-      go true true m n q = let p = stood_left _ _ _ r m (sym n) in rw (p.0, ← entered_there x b (ledger_of g) t, ← p.1, ← eh) kept
-      go true false m n q = let z : ◌≡◌ {A = ℕ} 0 1 = cc in absurd (omega arith)
-      go false d m n q = let z : ◌≡◌ {A = ℕ} 0 1 = cc in absurd (omega arith)
-
 -- ---- 19 and 20
 module _ (h : Ledger) (b : Beat) where
   failing_here : failing_of b (ledger_of h) ≡ owing lpddr3 (steady b) h.owed h.since (number_of (ledger_of h)) h.at
@@ -111,19 +62,30 @@ module _ (h : Ledger) (b : Beat) where
   unfolding owing lpddr3
   fails_19 a = failing_here ∙ (rw (lt-leb h.owed 16 a))
 
-  pub fails_20 : (n : ℕ) → n ≡ number_of (ledger_of h) → h.owed ≤ 16 → h.since + 9 * b.span < n → failing_of b (ledger_of h) ≡ some (20, h.at)
+  pub fails_20 : h.owed ≤ 16 → h.since + 9 * b.span < number_of (ledger_of h) → failing_of b (ledger_of h) ≡ some (20, h.at)
   unfolding owing lpddr3
-  fails_20 n e a l = failing_here ∙ (rw (le-leb h.owed 16 a, ← e, lt-leb (n - h.since) (9 * b.span) (omega arith)))
+  fails_20 a l = failing_here ∙ (rw (le-leb h.owed 16 a, lt-leb (number_of (ledger_of h) - h.since) (9 * b.span) (omega arith)))
 
-  pub fails_not : (n : ℕ) → n ≡ number_of (ledger_of h) → h.owed ≤ 16 → n ≤ h.since + 9 * b.span → failing_of b (ledger_of h) ≡ none
+  pub fails_not : h.owed ≤ 16 → number_of (ledger_of h) ≤ h.since + 9 * b.span → failing_of b (ledger_of h) ≡ none
   unfolding owing lpddr3
-  fails_not n e a l = failing_here ∙ (rw (le-leb h.owed 16 a, ← e, le-leb (n - h.since) (9 * b.span) (omega arith)))
+  fails_not a l = failing_here ∙ (rw (le-leb h.owed 16 a, le-leb (number_of (ledger_of h) - h.since) (9 * b.span) (omega arith)))
 
--- what is told where a rule fails, and where none does
-pub told_failing : (o : Option (ℕ × ℕ)) (q t : ℕ) → o ≡ some (q, t) → named 11 o ≡ some (refusal 11 q t)
-unfolding named
-told_failing o q t e = rw e
+-- ---- below the stamp, and at it
+module _ (x : lent.Effect) (b : Beat) (g : lent.Ledger) (t : ℕ) where
+  abbrev below : Option checks.Refusal
+  below = named 11 (failing_to b g t)
 
-pub told_none : (o : Option (ℕ × ℕ)) (h : Ledger) (old : lent.Ledger) → o ≡ none → Left (named 11 o) old (ledger_of h) (record { ledger = h; answer = Done })
-unfolding named refusal_of unless_refused
-told_none o h old e = record { told = rw e; ledger = rw e }
+  abbrev at_it : Option checks.Refusal
+  at_it = named 11 (failing_of b (lent.entered x b g t))
+
+  pub below_so : (u : ℕ) (y : checks.Refusal) → u ≡ t → named 11 (failing_to b g u) ≡ some y → or_else below at_it ≡ some y
+  unfolding or_else
+  below_so u y s e = rw (rw s at e)
+
+  module _ (r h : Ledger) (er : ledger_of r ≡ ledger_to b g t) (eh : ledger_of h ≡ changed_by x (ledger_of r)) where
+    pub there_so : ledger_of h ≡ lent.entered x b g t
+    there_so = eh ∙ ap (changed_by x) er ∙ entered_there x b g t
+
+    pub here_so : (u : ℕ) → u ≡ t → named 11 (failing_to b g u) ≡ none → or_else below at_it ≡ named 11 (failing_of b (ledger_of h))
+    unfolding or_else
+    here_so u s e = rw (rw s at e, there_so)

@@ -1,127 +1,107 @@
--- What a ledger that is moved on comes to, as its promise says it.
-use Prim.Native.Nat.{ℕ, ◌+◌, ◌-◌, ◌≤◌}
-use mathlib.Core.Path.{◌≡◌, refl, ap, sym, ◌∙◌}
-use mathlib.Core.Bool.{Bool, true, false}
-use mathlib.Core.Option.{Option, none, some}
+-- Idle time up to a cycle: what fails on the way, and the ledger as after it.
+use Prim.Native.Nat.{ℕ, ◌+◌, ◌-◌, ◌≤◌, ◌<◌}
+use mathlib.Core.Path.{◌≡◌, refl, sym, ◌∙◌}
+use mathlib.Core.Logic.{⊎_elim}
+use mathlib.Core.Bool.{Bool, true, false, cond}
+use mathlib.Core.Option.{none, some}
 use native.Mathlib.Omega.{arith}
-use lib.IntN.{ℤ, sub_ℕ}
+use lib.Dec.{leb, ltb}
+use lib.IntN.{sub_ℕ}
 use Rattle.rules.specs.Levels.{stopped}
-use Rattle.rules.specs.Checks.{Refusal, named}
-use Rattle.rules.specs.Account.{lpddr3, Beat, steady, idle, first_idle}
+use Rattle.rules.specs.Account.{lpddr3, Beat, fallen, steady, idle}
 use Rattle.rules.specs.Lent.{number_of, counted_to, ledger_to, failing_to}
-use Rattle.rules.specs.Lent as lent
+use Rattle.rules.proofs.Tests.{lt_cases, some_none}
 use Rattle.rules.proofs.Clocked.{relabel}
-use Rattle.rules.proofs.Closed.{first_among, failing_through, failing_below}
+use Rattle.rules.proofs.Closed.{failing_below}
+use Rattle.rules.proofs.Idle.{owed_at, idle_beat}
 use Rattle.rules.proofs.Ledgers.{counted_by}
 use Rattle.pins.specs.Values.{level_of}
 use Rattle.ledger.specs.declared.Ledger.{Ledger}
-use Rattle.ledger.specs.declared.account.Idle.{Idle}
-use Rattle.ledger.specs.declared.account.Idle.TheVariants.{Stands, Breaks}
-use Rattle.ledger.specs.declared.Answer.{Answer}
-use Rattle.ledger.specs.declared.Answer.TheVariants.{Done, Overdue}
-use Rattle.ledger.specs.declared.After.{After}
-use Rattle.ledger.specs.Values.{ledger_of, refusal_of, unless_refused, Left}
-use Rattle.ledger.specs.Parts.{stands, breaks, outcome, idle_of, until, tested, idle_to, shifted}
+use Rattle.ledger.specs.Values.{ledger_of, over_at, late_at, closed_at, deadline_by}
+use Rattle.ledger.proofs.Closing.{closed_ahead, none_by, fails_by, within_one}
 
--- an outcome is one of the two, and tells the account apart
-told_stands : (z w : ℤ) (o : Option (ℕ × ℕ)) → outcome z o ≡ stands w → (z ≡ w) × (o ≡ none)
-unfolding outcome
-told_stands z w none e = (cc, refl)
-told_stands z w (some x) e = let n : ◌≡◌ {A = ℕ} 0 1 = cc in absurd (omega arith)
-
-told_breaks : (z : ℤ) (q t : ℕ) (o : Option (ℕ × ℕ)) → outcome z o ≡ breaks q t → o ≡ some (q, t)
-unfolding outcome
-told_breaks z q t none e = let n : ◌≡◌ {A = ℕ} 0 1 = cc in absurd (omega arith)
-told_breaks z q t (some x) e =
-    let a : x.0 ≡ q = cc in
-    let b : x.1 ≡ t = cc in
-    λ i. some (a i, b i)
-
--- what is told where no rule fails, and where one does
-left_none : (o : Option (ℕ × ℕ)) {old new : lent.Ledger} {h : Ledger} → o ≡ none → ledger_of h ≡ new → Left (named 11 o) old new (record { ledger = h; answer = Done })
-unfolding named refusal_of unless_refused
-left_none o e s = record { told = rw e; ledger = rw e s }
-
-left_some : (o : Option (ℕ × ℕ)) {new : lent.Ledger} {g : Ledger} {q t : ℕ} → o ≡ some (q, t) → Left (named 11 o) (ledger_of g) new (record { ledger = g; answer = Overdue q t })
-unfolding named refusal_of unless_refused
-left_some o e = record { told = rw e; ledger = rw e }
-
-module _ (g : Ledger) (b : Beat) (to : ℕ) (x : Bool) where
-  abbrev n : ℕ
-  n = number_of (ledger_of g)
-
-  abbrev c : ℕ
-  c = counted_to (ledger_of g) to
-
-  abbrev MovedOn : After → Type 0
-  MovedOn = Left (named 11 (failing_to b (ledger_of g) (until x to))) (ledger_of g) (ledger_to b (ledger_of g) to)
-
-  same_cycles : n + c - n ≡ c
-  same_cycles = omega arith
-
-  -- through the numbers that count
-  shifts : (w : ℕ) → idle 8 (steady b) (sub_ℕ g.owed 8) n c ≡ sub_ℕ w 8 → ledger_of (shifted g to w) ≡ ledger_to b (ledger_of g) to
-  unfolding shifted ledger_to ledger_of lpddr3
-  shifts w e = λ i. record { at = to; owing = sym e i; since = g.since; skipped = to - (n + c); level = level_of g.level }
-
-  failing_by : (y : Bool) → failing_to b (ledger_of g) (until y to) ≡ first_among b (ledger_of g) (tested y c)
-  unfolding until tested
-  failing_by true = failing_through b (ledger_of g) to
-  failing_by false = failing_below b (ledger_of g) to
-
-  failing : (o : Option (ℕ × ℕ)) → first_idle lpddr3 (steady b) (sub_ℕ g.owed 8) g.since n n (tested x c) ≡ o →
-      failing_to b (ledger_of g) (until x to) ≡ relabel (λ m. g.at + (m - n)) o
-  unfolding ledger_of
-  failing o e = failing_by x ∙ ap (relabel (λ m. g.at + (m - n))) e
-
-  none_failing : (w : ℕ) → idle_to x b n g.owed g.since (n + c - n) ≡ stands (sub_ℕ w 8) → MovedOn (record { ledger = shifted g to w; answer = Done })
-  none_failing w e =
-      let e' : outcome (idle 8 (steady b) (sub_ℕ g.owed 8) n c) (first_idle lpddr3 (steady b) (sub_ℕ g.owed 8) g.since n n (tested x c)) ≡ stands (sub_ℕ w 8) = unfold idle_to in rw same_cycles at e in
-      let p = told_stands _ _ _ e' in
-      left_none _ (failing none p.1 ∙ (unfold relabel in refl)) (shifts w p.0)
-
-  one_failing : (q m : ℕ) → idle_to x b n g.owed g.since (n + c - n) ≡ breaks q m → MovedOn (record { ledger = g; answer = Overdue q (g.at + (m - n)) })
-  one_failing q m e =
-      let e' : outcome (idle 8 (steady b) (sub_ℕ g.owed 8) n c) (first_idle lpddr3 (steady b) (sub_ℕ g.owed 8) g.since n n (tested x c)) ≡ breaks q m = unfold idle_to in rw same_cycles at e in
-      left_some _ (failing (some (q, m)) (told_breaks _ q m _ e') ∙ (unfold relabel in refl))
-
-  -- as the code finds the two numbers
-  module _ (n' c' : ℕ) (en : n' ≡ n) (ec : c' ≡ c) (r : Idle) (done : idle_of r ≡ idle_to x b n' g.owed g.since (n' + c' - n')) where
-    same : idle_to x b n g.owed g.since (n + c - n) ≡ idle_of r
-    same = sym (rw (en, ec) at done)
-
-    pub stands_moved : (w : ℕ) → r ≡ Stands w → MovedOn (record { ledger = shifted g to w; answer = Done })
-    stands_moved w e = none_failing w (same ∙ (unfold idle_of in rw e))
-
-    pub breaks_told : (q m : ℕ) → r ≡ Breaks q m → MovedOn (record { ledger = g; answer = Overdue q (g.at + (m - n')) })
-    breaks_told q m e = rw en (one_failing q m (same ∙ (unfold idle_of in rw e)))
-
--- ---- as the code counts
-pub counted_none : (g : Ledger) (t : ℕ) (x : Bool) → x ≡ stopped (level_of g.level) → x ≡ true → 0 ≡ counted_to (ledger_of g) t
+-- as many of the cycles up to one count
+pub halted_counts : (g : Ledger) → stopped (level_of g.level) ≡ true → (t : ℕ) → counted_to (ledger_of g) t ≡ 0
 unfolding counted_to ledger_of
-counted_none g t x e h = rw (← e, h)
+halted_counts g e t = rw e
 
-pub counted_each : (g : Ledger) (t : ℕ) (x : Bool) → x ≡ stopped (level_of g.level) → x ≡ false → t - g.at ≡ counted_to (ledger_of g) t
+pub running_counts : (g : Ledger) → stopped (level_of g.level) ≡ false → (t : ℕ) → counted_to (ledger_of g) t ≡ t - g.at
 unfolding counted_to ledger_of
-counted_each g t x e h = rw (← e, h)
+running_counts g e t = rw e
 
 pub number_by : (g : Ledger) → number_of (ledger_of g) ≤ g.at
 unfolding number_of ledger_of
 number_by g = omega arith
 
-pub numbers_by : (g : Ledger) (t : ℕ) → g.at ≤ t → number_of (ledger_of g) + counted_to (ledger_of g) t ≤ t
-numbers_by g t h = omega (arith, number_by g, by)
-  where
-    by : counted_to (ledger_of g) t ≤ t - g.at
-    by = unfold ledger_of in counted_by (ledger_of g) t
+pub counts_by : (g : Ledger) (t : ℕ) → counted_to (ledger_of g) t ≤ t - g.at
+counts_by g t = unfold ledger_of in counted_by (ledger_of g) t
 
-pub shift_so : (g : Ledger) (t o n c : ℕ) → n ≡ number_of (ledger_of g) → c ≡ counted_to (ledger_of g) t →
-    record { at = t; owed = o; since = g.since; skipped = t - (n + c); level = g.level } ≡ shifted g t o
-unfolding shifted
-shift_so g t o n c en ec = rw (en, ec)
+module _ (b : Beat) (g : Ledger) where
+  abbrev n : ℕ
+  n = number_of (ledger_of g)
 
--- a refusal gives the ledger back
-pub refused_as : (o : Option Refusal) (x : Refusal) → o ≡ some x → (g : Ledger) (a : Answer) → refusal_of a ≡ some x → (new : lent.Ledger) →
-    Left o (ledger_of g) new (record { ledger = g; answer = a })
-unfolding unless_refused
-refused_as o x e g a t new = record { told = t ∙ sym e; ledger = rw e }
+  abbrev halted : Bool
+  halted = stopped (level_of g.level)
+
+  abbrev pub rule : ℕ
+  rule = cond (leb (over_at b n g.owed) (late_at b.span n g.since)) 19 20
+
+  pub halted_none : halted ≡ true → (t : ℕ) → failing_to b (ledger_of g) t ≡ none
+  unfolding failing_to ledger_of
+  halted_none e t = rw e
+
+  module _ (positive : 0 < b.span) (low : g.owed ≤ 16) where
+    ahead : n < closed_at b n g.owed g.since
+    ahead = closed_ahead b n g.owed g.since positive
+
+    module _ (runs : halted ≡ false) (t : ℕ) where
+      pub running_none : t ≤ deadline_by b g → failing_to b (ledger_of g) t ≡ none
+      unfolding ledger_of deadline_by
+      running_none h =
+          failing_below b (ledger_of g) t
+          ∙ rw (running_counts g runs t, none_by b n g.owed g.since positive low (t - g.at - 1) (omega (arith, ahead))) (unfold relabel in refl)
+
+      pub running_fails : deadline_by b g < t → failing_to b (ledger_of g) t ≡ some (rule, deadline_by b g)
+      unfolding ledger_of deadline_by
+      running_fails h =
+          failing_below b (ledger_of g) t
+          ∙ rw (running_counts g runs t, fails_by b n g.owed g.since positive low (t - g.at - 1) (omega (arith, ahead))) (unfold relabel in refl)
+
+      pub by_deadline : failing_to b (ledger_of g) t ≡ none → t ≤ deadline_by b g
+      by_deadline e = ⊎_elim
+          (λ (p : (deadline_by b g < t) × (ltb (deadline_by b g) t ≡ true)). absurd (some_none (sym e ∙ running_fails p.0)))
+          (λ (p : (t ≤ deadline_by b g) × (ltb (deadline_by b g) t ≡ false)). p.0)
+          (lt_cases (deadline_by b g) t)
+
+    -- what does not fail below one cycle does not fail below an earlier one
+    pub fewer_none : (t u : ℕ) → t ≤ u → failing_to b (ledger_of g) u ≡ none → failing_to b (ledger_of g) t ≡ none
+    fewer_none t u h e = go halted refl
+      where
+        go : (x : Bool) → halted ≡ x → failing_to b (ledger_of g) t ≡ none
+        go true w = halted_none w t
+        go false w = let l : u ≤ deadline_by b g = by_deadline w u e in running_none w t (omega arith)
+
+    -- ---- a cycle below which neither fails
+    module _ (t : ℕ) (e : failing_to b (ledger_of g) t ≡ none) where
+      abbrev c : ℕ
+      c = counted_to (ledger_of g) t
+
+      by_over : n + c ≤ over_at b n g.owed
+      by_over = go halted refl
+        where
+          go : (x : Bool) → halted ≡ x → n + c ≤ over_at b n g.owed
+          go true w = rw (halted_counts g w t) (omega (arith, ahead))
+          go false w = rw (running_counts g w t) (let l : t ≤ deadline_by b g = by_deadline w t e in unfold deadline_by in omega (arith, ahead))
+
+      pub owed_fits : g.owed + (fallen b (n + c) - fallen b n) ≤ 17
+      owed_fits = within_one b n g.owed (n + c) positive low (omega arith) by_over
+
+      pub reached : (n' c' x y : ℕ) → n' ≡ n → c' ≡ c → x ≡ fallen b (n' + c') → y ≡ fallen b n' →
+          ledger_of (record { at = t; owed = g.owed + (x - y); since = g.since; skipped = t - (n' + c'); level = g.level }) ≡ ledger_to b (ledger_of g) t
+      unfolding ledger_to ledger_of lpddr3
+      reached n' c' x y en ec ex ey =
+          rw (ex, ey, en, ec)
+          (λ i. record { at = t; owing = sym owing i; since = g.since; skipped = t - (n + c); level = level_of g.level })
+        where
+          owing : idle 8 (steady b) (sub_ℕ g.owed 8) n c ≡ sub_ℕ (g.owed + (fallen b (n + c) - fallen b n)) 8
+          owing = unfold owed_at in idle_beat b positive 8 g.owed n c

@@ -3,11 +3,13 @@ use Prim.Native.Nat.{ℕ, ◌≤◌, ◌<◌}
 use mathlib.Core.Path.{◌≡◌, refl, ap, sym, ◌∙◌}
 use mathlib.Core.Logic.{⊎_elim}
 use mathlib.Core.Bool.{true, false, cond}
+use Rattle.std.specs.Prelude.{Result, Ok, Err}
 use mathlib.Core.Option.{Option, none, some}
 use native.Mathlib.Omega.{arith}
 use lib.Dec.{ltb, eqb}
 use lib.IntN.{sub_ℕ}
-use Rattle.rules.specs.Checks.{Refusal, refusal}
+use Rattle.rules.specs.Checks.{refusal}
+use Rattle.rules.specs.Checks as checks
 use Rattle.rules.specs.Lent as lent
 use Rattle.rules.proofs.Tests.{lt_cases}
 use Rattle.rules.proofs.Determined.{tells, Promise, Determined, determined, fact_of}
@@ -16,8 +18,8 @@ use Rattle.pins.specs.declared.Level.{Level}
 use Rattle.pins.specs.declared.Level.TheVariants.{Awake, PowerDown, SelfRefresh, Deep}
 use Rattle.ledger.specs.declared.Ledger.{Ledger}
 use Rattle.ledger.specs.declared.Pace.{Pace}
-use Rattle.ledger.specs.declared.Answer.{Answer}
-use Rattle.ledger.specs.declared.Answer.TheVariants.{Done, BadRecord, Earlier, Overdue}
+use Rattle.ledger.specs.declared.Refusal.{Refusal}
+use Rattle.ledger.specs.declared.Refusal.TheVariants.{BadRecord, Earlier, Overdue}
 use Rattle.ledger.specs.declared.After.{After}
 use Rattle.ledger.specs.Values.{ledger_of, pace_of, stored, level_in, code_of, pace_in, refusal_of, Left}
 use Rattle.ledger.specs.contracts.calls.moved as moved
@@ -29,16 +31,16 @@ use Rattle.ledger.specs.contracts.pacing.respaced as respaced
 use Rattle.ledger.specs.contracts.move_on as move_on
 
 -- the case that has these numbers
-abbrev answer_of : Option Refusal → Answer
-answer_of none = Done
-answer_of (some x) = cond (eqb x.number 13) BadRecord (cond (eqb x.number 5) Earlier (Overdue x.rule x.cycle))
+abbrev answer_of : Option checks.Refusal → Result (Unit {0}) Refusal
+answer_of none = Ok tt
+answer_of (some x) = Err (cond (eqb x.number 13) BadRecord (cond (eqb x.number 5) Earlier (Overdue x.rule x.cycle)))
 
-answer_is : (y : Answer) → answer_of (refusal_of y) ≡ y
+answer_is : (y : Result (Unit {0}) Refusal) → answer_of (refusal_of y) ≡ y
 unfolding refusal_of refusal
-answer_is Done = refl
-answer_is BadRecord = refl
-answer_is Earlier = refl
-answer_is (Overdue q t) = refl
+answer_is (Ok x) = refl
+answer_is (Err BadRecord) = refl
+answer_is (Err Earlier) = refl
+answer_is (Err (Overdue q t)) = refl
 
 pub stored_is : (x : ℕ) → stored (sub_ℕ x 8) ≡ x
 unfolding stored
@@ -63,7 +65,7 @@ unfolding pace_of pace_in
 pace_is p = refl
 
 -- two that are told and left so are one
-pub one_left : (o : Option Refusal) (old new : lent.Ledger) (r s : After) → Left o old new r → Left o old new s → r ≡ s
+pub one_left : (o : Option checks.Refusal) (old new : lent.Ledger) (r s : After) → Left o old new r → Left o old new s → r ≡ s
 one_left o old new r s p q =
     let a : r.answer ≡ s.answer = tells refusal_of answer_of answer_is r.answer s.answer p.told q.told in
     let g : r.ledger ≡ s.ledger = tells ledger_of code_of code_is r.ledger s.ledger p.ledger q.ledger in

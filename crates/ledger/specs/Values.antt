@@ -1,8 +1,9 @@
 -- The types of the code, read as the values of the rules.
-use Rattle.std.specs.Prelude.{ℕ, ◌+◌, ◌-◌, ◌*◌, max, min, ◌≡◌, Bool, true, false, cond, not, ◌&&◌, ℤ, pos, negsuc}
+use Rattle.std.specs.Prelude.{ℕ, ◌+◌, ◌-◌, ◌*◌, max, min, ◌≡◌, Bool, true, false, cond, not, ◌&&◌, ℤ, pos, negsuc, Result, Ok, Err}
 use Rattle.std.proofs.Math.Option.{Option, none, some}
 use Rattle.std.proofs.Math.IntN.{sub_ℕ}
-use Rattle.rules.specs.Checks.{Refusal, refusal}
+use Rattle.rules.specs.Checks.{refusal}
+use Rattle.rules.specs.Checks as checks
 use Rattle.rules.specs.Levels.{stopped}
 use Rattle.rules.specs.Levels as levels
 use Rattle.rules.specs.Account.{Beat, next_after}
@@ -16,8 +17,8 @@ use Rattle.pins.specs.declared.Level.TheVariants.{Awake, PowerDown, SelfRefresh,
 use Rattle.ledger.specs.declared.Ledger.{Ledger}
 use Rattle.ledger.specs.declared.Pace.{Pace}
 use Rattle.ledger.specs.declared.Effect.{Effect}
-use Rattle.ledger.specs.declared.Answer.{Answer}
-use Rattle.ledger.specs.declared.Answer.TheVariants.{Done, BadRecord, Earlier, Overdue}
+use Rattle.ledger.specs.declared.Refusal.{Refusal}
+use Rattle.ledger.specs.declared.Refusal.TheVariants.{BadRecord, Earlier, Overdue}
 use Rattle.ledger.specs.declared.After.{After}
 unfoldable pub use Rattle.card.specs.Reading.{unless_refused}
 
@@ -48,21 +49,24 @@ unfoldable pub pace_in : lent.Pace → Pace
 pace_in p = record { next = p.next; mr4 = p.mr4 }
 
 -- document 01's numbers of each case
-unfoldable pub refusal_of : Answer → Option Refusal
-refusal_of Done = none
-refusal_of BadRecord = some (refusal 13 0 0)
-refusal_of Earlier = some (refusal 5 0 0)
-refusal_of (Overdue q t) = some (refusal 11 q t)
+abbrev pub refused_as : Refusal → checks.Refusal
+refused_as BadRecord = refusal 13 0 0
+refused_as Earlier = refusal 5 0 0
+refused_as (Overdue q t) = refusal 11 q t
 
-unfoldable pub is_none : Option Refusal → Bool
+unfoldable pub refusal_of : Result (Unit {0}) Refusal → Option checks.Refusal
+refusal_of (Ok x) = none
+refusal_of (Err e) = some (refused_as e)
+
+unfoldable pub is_none : Option checks.Refusal → Bool
 is_none none = true
 is_none (some x) = false
 
-abbrev pub after_as : Ledger → Answer → After
+abbrev pub after_as : Ledger → Result (Unit {0}) Refusal → After
 after_as g a = record { ledger = g; answer = a }
 
 -- this refusal, or none, is told, and the ledger then is the new one, or on a refusal the old one
-pub record Left (o : Option Refusal) (old new : lent.Ledger) (r : After) : Type 0 where
+pub record Left (o : Option checks.Refusal) (old new : lent.Ledger) (r : After) : Type 0 where
   pub told : refusal_of r.answer ≡ o
   pub ledger : ledger_of r.ledger ≡ unless_refused o old new
 

@@ -1,65 +1,80 @@
 // What a lent ledger is asked, with a card: 13, 5, then the account.
 ghost use Rattle.std.specs.Prelude.{◌≡◌};
+ghost use Rattle.rules.specs.Checks.{unless};
 ghost use Rattle.rules.specs.Lent.{beat_of, move_refusal, enter_refusal, moved_on};
 ghost use Rattle.rules.specs.Lent as lent;
 ghost use Rattle.card.specs.Values.{card_of};
-ghost use Rattle.ledger.specs.Values.{ledger_of, pace_of, effect_of, Left, deadline_by, deadline_of};
-ghost use Rattle.ledger.specs.Parts.{beat_as, ReachArgs, admitted, new_of, asked_of};
+ghost use Rattle.ledger.specs.Values.{ledger_of, pace_of, effect_of, Left, deadline_of};
+ghost use Rattle.ledger.specs.Parts.{admission, Checked, Opened, after_of};
 
-use crate::account::Beat;
-use crate::{After, Answer, Effect, Ledger, Pace, account, entering, moving, pacing};
+use crate::account::Account;
+use crate::{After, Effect, Ledger, Pace, Refusal, moving, pacing};
 use card::Card;
-use pins::Move;
 
-// Whether 13 lets the ledger and its card pass.
-fn sound(ledger: Ledger, card: Card) -> bool
-    ensures { result ≡ lent.ledger_good (card_of card) (ledger_of ledger) }
+// The account of a ledger, where 13 lets it and its card pass.
+fn sound(ledger: Ledger, pace: Pace, card: Card) -> Result<Account, Refusal>
+    ensures { Checked (unless (lent.ledger_good (card_of card) (ledger_of ledger)) 13) (Opened (card_of card) (pace_of pace) ledger) result }
 {
-    card::in_range(card) & (ledger.owed <= 16) & (ledger.since <= moving::number_of(ledger))
+    if card::in_range(card) && ledger.owed <= 16 && ledger.since <= moving::number_of(ledger) {
+        let beat = pacing::beat_of(pace, card);
+        Ok(Account { ledger, beat })
+    } else {
+        Err(Refusal::BadRecord)
+    }
 }
 
-// 13, then 5: 0 where a ledger that comes with this card may be asked about this cycle.
-fn admission(ledger: Ledger, card: Card, to: u32) -> u8
-    ensures { result ≡ admitted (card_of card) (ledger_of ledger) to }
+// And where it may be asked about this cycle.
+fn asked(ledger: Ledger, pace: Pace, card: Card, to: u32) -> Result<Account, Refusal>
+    ensures { Checked (admission (card_of card) (ledger_of ledger) to) (Opened (card_of card) (pace_of pace) ledger) result }
 {
-    if !sound(ledger, card) {
-        return 13;
-    }
+    let account = sound(ledger, pace, card)?;
     if to < ledger.at {
-        return 5;
+        return Err(Refusal::Earlier);
     }
-    0
+    Ok(account)
 }
 
-fn asked(ledger: Ledger, pace: Pace, card: Card, t: u32, entry: bool, effect: Effect) -> After
-    ensures { Left (asked_of entry (effect_of effect) (card_of card) (pace_of pace) (ledger_of ledger) t) (ledger_of ledger) (new_of entry (effect_of effect) (beat_of (card_of card) (pace_of pace)) (ledger_of ledger) t) result }
+// The ledger moved on; the cycle it stands at changes nothing.
+fn try_move(ledger: Ledger, pace: Pace, card: Card, to: u32) -> Result<Ledger, Refusal>
+    ensures { Checked (move_refusal (card_of card) (pace_of pace) (ledger_of ledger) to) (λ then. ledger_of then ≡ moved_on (card_of card) (pace_of pace) (ledger_of ledger) to) result }
 {
-    let n = admission(ledger, card, t);
-    if n == 13 {
-        return moving::told(ledger, Answer::BadRecord);
+    asked(ledger, pace, card, to)?.reach(to, u64::from(to) + 1)
+}
+
+// The ledger taken through an entry's own cycle.
+fn try_enter(
+    ledger: Ledger,
+    pace: Pace,
+    card: Card,
+    stamp: u32,
+    effect: Effect,
+) -> Result<Ledger, Refusal>
+    ensures { Checked (enter_refusal (effect_of effect) (card_of card) (pace_of pace) (ledger_of ledger) stamp) (λ then. ledger_of then ≡ lent.entered (effect_of effect) (beat_of (card_of card) (pace_of pace)) (ledger_of ledger) stamp) result }
+{
+    asked(ledger, pace, card, stamp)?.enter(stamp, effect)
+}
+
+// What a caller is told: the ledger is as it was, where it is refused.
+fn told(ledger: Ledger, then: Result<Ledger, Refusal>) -> After
+    ensures { result ≡ after_of ledger then }
+{
+    match then {
+        Ok(then) => After {
+            ledger: then,
+            answer: Ok(()),
+        },
+        Err(refusal) => After {
+            ledger,
+            answer: Err(refusal),
+        },
     }
-    if n == 5 {
-        return moving::told(ledger, Answer::Earlier);
-    }
-    entering::go_on(ledger, pacing::beat_of(pace, card), t, entry, effect)
 }
 
 // Moved on to a later cycle; the cycle it stands at changes nothing. Refused in this order: 13, 5, 11.
 pub fn moved(ledger: Ledger, pace: Pace, card: Card, to: u32) -> After
     ensures { Left (move_refusal (card_of card) (pace_of pace) (ledger_of ledger) to) (ledger_of ledger) (moved_on (card_of card) (pace_of pace) (ledger_of ledger) to) result }
 {
-    asked(
-        ledger,
-        pace,
-        card,
-        to,
-        false,
-        Effect {
-            counted: false,
-            sensed: false,
-            moved: Move::Stays,
-        },
-    )
+    told(ledger, try_move(ledger, pace, card, to))
 }
 
 // An entry's own cycle: what is due at this pace, a counted refresh or a temperature if it is one, then 19 and 20; and the level from there on. Refused in
@@ -67,30 +82,19 @@ pub fn moved(ledger: Ledger, pace: Pace, card: Card, to: u32) -> After
 pub fn entered(ledger: Ledger, pace: Pace, card: Card, stamp: u32, effect: Effect) -> After
     ensures { Left (enter_refusal (effect_of effect) (card_of card) (pace_of pace) (ledger_of ledger) stamp) (ledger_of ledger) (lent.entered (effect_of effect) (beat_of (card_of card) (pace_of pace)) (ledger_of ledger) stamp) result }
 {
-    asked(ledger, pace, card, stamp, true, effect)
-}
-
-// Of a ledger that 13 lets pass, and whose cycles count.
-fn deadline_in(ledger: Ledger, beat: Beat) -> u64
-    requires { ReachArgs ledger (beat_as beat) ledger.at }
-    ensures { result ≡ deadline_by (beat_as beat) ledger }
-{
-    let n = moving::number_of(ledger);
-    ledger.at as u64
-        + (account::first_failing(beat, n, ledger.owed, ledger.since).number - n as u64)
+    told(ledger, try_enter(ledger, pace, card, stamp, effect))
 }
 
 // The first cycle at which 19 or 20 fails with no counted refresh; 0 where 13 refuses the ledger or its card, and where the cycles of its level are not
-// counted.
+// counted: 0 and not `None`, as `deadline_of` has it.
 pub fn deadline(ledger: Ledger, pace: Pace, card: Card) -> u64
     ensures { result ≡ deadline_of card pace ledger }
 {
-    if !sound(ledger, card) {
+    let Ok(account) = sound(ledger, pace, card) else {
         return 0;
+    };
+    match account.first_failing() {
+        Some(first) => first.cycle,
+        None => 0,
     }
-    let level = ledger.level;
-    if moving::stopped(level) {
-        return 0;
-    }
-    deadline_in(ledger, pacing::beat_of(pace, card))
 }

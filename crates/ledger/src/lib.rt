@@ -9,6 +9,7 @@ use card::Card;
 use pins::{Level, Move};
 
 mod account;
+mod beat;
 mod calls;
 mod entering;
 mod moving;
@@ -21,7 +22,8 @@ pub use pacing::{first_pace, respaced};
 // The ledger as after cycle `at`. `owed` is the number with 8 added: 0 to 16 for -8 to 8. `skipped` of the cycles up to `at` were not counted; counted
 // cycles have numbers, and the gap counts from number `since`, that of the last counted refresh or of a later temperature, or 0. The level says whether the
 // cycles after `at` count.
-#[derive(Clone, Copy)]
+// Plain data, its fields public: a caller may lend any values, and 13 says which are sound.
+#[derive(Clone, Copy, PartialEq, Eq)]
 pub struct Ledger {
     pub at: u32,
     pub owed: u8,
@@ -31,7 +33,8 @@ pub struct Ledger {
 }
 
 // When refreshes are due: one at number `next`, which may be any, none before it, and one every interval after it, by the MR4 value that was read back last.
-#[derive(Clone, Copy)]
+// Plain data, its fields public: a caller may lend any values, and any are taken.
+#[derive(Clone, Copy, PartialEq, Eq)]
 pub struct Pace {
     pub next: u64,
     pub mr4: u8,
@@ -45,10 +48,9 @@ pub struct Effect {
     pub moved: Move,
 }
 
-// What a caller is told: 13, 5, or 11 with the rule and the first cycle that fails.
-#[derive(Clone, Copy)]
-pub enum Answer {
-    Done,
+// Why a ledger is refused: 13, 5, or 11 with the first cycle that fails and its rule. The rule, 19 or 20, is its name in the documents, and stays a number.
+#[derive(Clone, Copy, PartialEq, Eq)]
+pub enum Refusal {
     BadRecord,
     Earlier,
     Overdue { rule: u8, cycle: u64 },
@@ -58,11 +60,11 @@ pub enum Answer {
 #[derive(Clone, Copy)]
 pub struct After {
     pub ledger: Ledger,
-    pub answer: Answer,
+    pub answer: Result<(), Refusal>,
 }
 
 // `moved`, of a ledger that is lent.
-pub fn move_on(ledger: &mut Ledger, pace: Pace, card: Card, to: u32) -> Answer
+pub fn move_on(ledger: &mut Ledger, pace: Pace, card: Card, to: u32) -> Result<(), Refusal>
     ensures { Left (move_refusal (card_of card) (pace_of pace) (ledger_of ledger.old) to) (ledger_of ledger.old) (moved_on (card_of card) (pace_of pace) (ledger_of ledger.old) to) (after_as ledger.new result) }
 {
     let after = moved(*ledger, pace, card, to);

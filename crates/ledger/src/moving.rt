@@ -1,89 +1,77 @@
 // A ledger moved on through idle time.
-ghost use Rattle.std.specs.Prelude.{◌≡◌};
+ghost use Rattle.std.specs.Prelude.{◌≡◌, ◌≤◌};
+ghost use Rattle.std.proofs.Math.Option.{none};
 ghost use Rattle.rules.specs.Levels as levels;
 ghost use Rattle.rules.specs.Checks.{named};
 ghost use Rattle.rules.specs.Lent.{number_of, counted_to, ledger_to, failing_to};
 ghost use Rattle.pins.specs.Values.{level_of};
-ghost use Rattle.ledger.specs.Values.{ledger_of, after_as, Left};
-ghost use Rattle.ledger.specs.Parts.{beat_as, Later, ReachArgs, shifted, until};
+ghost use Rattle.ledger.specs.Values.{ledger_of, refusal_of};
+ghost use Rattle.ledger.specs.Parts.{beat_as, Checked};
 
-use crate::account::{Beat, Idle};
-use crate::{After, Answer, Ledger, account};
+use crate::account::{Account, First};
+use crate::{Ledger, Refusal};
 use pins::Level;
 
-// The answer, with the ledger then.
-pub fn told(ledger: Ledger, answer: Answer) -> After
-    ensures { result ≡ after_as ledger answer }
-{
-    After {
-        ledger: ledger,
-        answer: answer,
-    }
-}
-
 // Whether the cycles at this level are not counted.
+#[tactic(auto, unfolding(rules::specs::Levels::stopped, pins::specs::Values::level_of))]
 pub fn stopped(level: Level) -> bool
     ensures { result ≡ levels.stopped (level_of level) }
 {
-    match level {
-        Level::Awake => false,
-        Level::PowerDown => false,
-        Level::SelfRefresh => true,
-        Level::Deep => true,
-    }
+    matches!(level, Level::SelfRefresh | Level::Deep)
 }
 
 // The number of the cycle where a ledger stands, whatever it says it skipped.
+#[tactic(auto, unfolding(rules::specs::Lent::number_of, crate::specs::Values::ledger_of))]
 pub fn number_of(ledger: Ledger) -> u32
     ensures { result ≡ number_of (ledger_of ledger) }
 {
-    let at = ledger.at;
-    let skipped = ledger.skipped;
-    if skipped < at { at - skipped } else { 0 }
+    ledger.at.saturating_sub(ledger.skipped)
 }
 
-// How many of the cycles up to a later one count.
-pub fn counted_to(ledger: Ledger, to: u32) -> u32
-    requires { Later ledger to }
+// How many of the cycles up to this one count.
+#[tactic(auto, unfolding(rules::specs::Lent::counted_to, crate::specs::Values::ledger_of))]
+fn counted_to(ledger: Ledger, to: u32) -> u32
     ensures { result ≡ counted_to (ledger_of ledger) to }
 {
-    let level = ledger.level;
-    if stopped(level) {
-        return 0;
-    }
-    to - ledger.at
-}
-
-// The ledger as after a later cycle, owing this then.
-pub fn shift(ledger: Ledger, to: u32, owed: u8) -> Ledger
-    requires { Later ledger to }
-    ensures { result ≡ shifted ledger to owed }
-{
-    let level = ledger.level;
-    Ledger {
-        at: to,
-        owed: owed,
-        since: ledger.since,
-        skipped: to - (number_of(ledger) + counted_to(ledger, to)),
-        level: level,
+    if stopped(ledger.level) {
+        0
+    } else {
+        to.saturating_sub(ledger.at)
     }
 }
 
-// A sound ledger moved on to a later cycle, or through it: then 19 and 20 are asked there too.
-pub fn reach(ledger: Ledger, beat: Beat, to: u32, through: bool) -> After
-    requires { ReachArgs ledger (beat_as beat) to }
-    ensures { Left (named 11 (failing_to (beat_as beat) (ledger_of ledger) (until through to))) (ledger_of ledger) (ledger_to (beat_as beat) (ledger_of ledger) to) result }
-{
-    let n = number_of(ledger);
-    let m = n + counted_to(ledger, to);
-    match account::idle_to(beat, n, ledger.owed, ledger.since, m, through) {
-        Idle::Stands(x) => told(shift(ledger, to, x), Answer::Done),
-        Idle::Breaks { rule, number } => told(
-            ledger,
-            Answer::Overdue {
-                rule: rule,
-                cycle: ledger.at as u64 + (number - n as u64),
-            },
-        ),
+impl Account {
+    // 19 and 20 at the cycles after the ledger's and below this one.
+    fn idle_below(self, until: u64) -> Result<(), Refusal>
+        ensures { refusal_of result ≡ named 11 (failing_to (beat_as self.beat) (ledger_of self.ledger) until) }
+    {
+        match self.first_failing() {
+            Some(First { rule, cycle }) if cycle < until => Err(Refusal::Overdue { rule, cycle }),
+            _ => Ok(()),
+        }
+    }
+
+    // The ledger as after a cycle below which neither fails.
+    fn moved_to(self, to: u32) -> Ledger
+        requires { failing_to (beat_as self.beat) (ledger_of self.ledger) to ≡ none }
+        ensures { ledger_of result ≡ ledger_to (beat_as self.beat) (ledger_of self.ledger) to }
+    {
+        let n = number_of(self.ledger);
+        let m = n + counted_to(self.ledger, to);
+        Ledger {
+            at: to,
+            owed: self.ledger.owed + (self.beat.fallen(m) - self.beat.fallen(n)) as u8,
+            skipped: to.saturating_sub(m),
+            ..self.ledger
+        }
+    }
+
+    // The ledger as after a cycle, where 19 and 20 are asked below `until`: that cycle, or the next one.
+    pub fn reach(self, to: u32, until: u64) -> Result<Ledger, Refusal>
+        requires { to ≤ until }
+        ensures { Checked (named 11 (failing_to (beat_as self.beat) (ledger_of self.ledger) until)) (λ then. ledger_of then ≡ ledger_to (beat_as self.beat) (ledger_of self.ledger) to) result }
+    {
+        self.idle_below(until)?;
+        Ok(self.moved_to(to))
     }
 }

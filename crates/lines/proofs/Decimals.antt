@@ -1,8 +1,9 @@
 -- The digits of a number: one below ten, else one more than those of a tenth of it.
-use Rattle.std.proofs.Common.{◌≡◌, ℕ, zero, suc, ◌+◌, ◌-◌, ◌/◌, ◌%◌, ◌^◌, ◌<◌, ◌≤◌, true, false, ltb, [], ◌∷◌, ◌++◌, length, ap, ◌∙◌, ⊎_elim, append_assoc, arith, length-append, le-ltb, lt-ltb}
+use Rattle.std.proofs.Common.{◌≡◌, ℕ, zero, suc, ◌+◌, ◌-◌, ◌/◌, ◌%◌, ◌^◌, ◌<◌, ◌≤◌, true, false, ltb, List, [], ◌∷◌, ◌++◌, length, take, drop, set, refl, ap, ◌∙◌, length-take-le, drop_at, ⊎_elim, append_assoc, arith, length-append, le-ltb, lt-ltb}
+use lib.Seq.{set_split}
 use Rattle.rules.specs.Lines.{digits, decimal, signed}
 use Rattle.lines.specs.Parts.{owed_part}
-use Rattle.lines.specs.Quick.{last_four}
+use Rattle.lines.specs.Stamps.{last_four}
 use Rattle.rules.proofs.Tests.{lt_cases}
 
 below_ten : (k x : ℕ) → x < 10 → digits (suc k) x ≡ (48 + x) ∷ []
@@ -45,6 +46,59 @@ short (suc k) x h =
     ⊎_elim (λ (p : (x < 10) × (ltb x 10 ≡ true)). rw (one_digit x p.0) (omega arith))
     (λ (p : (10 ≤ x) × (ltb x 10 ≡ false)). omega (arith, one_more x p.0, short k (x / 10) (omega arith)))
     (lt_cases x 10)
+
+pub short_digit : (x : ℕ) → x < 10 → length (decimal x) ≤ 1
+short_digit x h = short 0 x (omega arith)
+
+pub short_byte : (x : ℕ) → x < 256 → length (decimal x) ≤ 3
+short_byte x h = short 2 x (omega arith)
+
+pub short_stamp : (x : ℕ) → x < 4294967296 → length (decimal x) ≤ 10
+short_stamp x h = short 9 x (omega arith)
+
+pub short_word : (x : ℕ) → x < 18446744073709551616 → length (decimal x) ≤ 20
+short_word x h = short 19 x (omega arith)
+
+some_power : (k : ℕ) → 1 ≤ 10 ^ k
+some_power zero = omega arith
+some_power (suc k) = omega (arith, some_power k)
+
+pub long : (k x : ℕ) → 10 ^ k ≤ x → suc k ≤ length (decimal x)
+long zero x h = some_digit x
+long (suc k) x h =
+    let p : 1 ≤ 10 ^ k = some_power k in
+    omega (arith, one_more x (omega arith), long k (x / 10) (omega arith))
+
+-- ---- digits put from the last one on: those that are still to be put, so many, are the digits of the rest
+abbrev pub ahead : (count rest : ℕ) → List ℕ
+ahead zero rest = []
+ahead (suc k) rest = decimal rest
+
+set_there : (k d : ℕ) (out : List ℕ) → k < length out → drop k (set out k d) ≡ d ∷ drop (suc k) out
+set_there k d out h = ap (drop k) (set_split out k d h) ∙ drop_at (take k out) (d ∷ drop (suc k) out) k (length-take-le k out (omega arith))
+
+digit_put : (k rest : ℕ) (out whole : List ℕ) → k < length out → length (ahead (suc k) rest) ≡ suc k → ahead (suc k) rest ++ drop (suc k) out ≡ whole
+    → (length (ahead k (rest / 10)) ≡ k) × (ahead k (rest / 10) ++ drop k (set out k (48 + rest % 10)) ≡ whole)
+digit_put zero rest out whole h n e =
+    ⊎_elim (λ (p : (rest < 10) × (ltb rest 10 ≡ true)). (refl, set_there 0 (48 + rest % 10) out h ∙ rw (one_digit rest p.0) at e))
+    (λ (p : (10 ≤ rest) × (ltb rest 10 ≡ false)). absurd (omega (arith, one_more rest p.0, some_digit (rest / 10))))
+    (lt_cases rest 10)
+digit_put (suc k) rest out whole h n e =
+    ⊎_elim (λ (p : (rest < 10) × (ltb rest 10 ≡ true)). absurd (let one : length (decimal rest) ≡ 1 = ap length (one_digit rest p.0) in omega arith))
+    (λ (p : (10 ≤ rest) × (ltb rest 10 ≡ false)). (
+      omega (arith, one_more rest p.0),
+      rw (set_there (suc k) (48 + rest % 10) out h, ← append_assoc (decimal (rest / 10)) ((48 + rest % 10) ∷ []) (drop (suc (suc k)) out), ← more_digits rest p.0) e,
+    ))
+    (lt_cases rest 10)
+
+pub all_ahead : (n x : ℕ) → n ≡ length (decimal x) → ahead n x ≡ decimal x
+all_ahead zero x e = absurd (omega (arith, some_digit x))
+all_ahead (suc k) x e = refl
+
+pub digit_back : (i rest : ℕ) (out whole : List ℕ) → 0 < i → i ≤ length out → length (ahead i rest) ≡ i → ahead i rest ++ drop i out ≡ whole
+    → (length (ahead (i - 1) (rest / 10)) ≡ i - 1) × (ahead (i - 1) (rest / 10) ++ drop (i - 1) (set out (i - 1) (48 + rest % 10)) ≡ whole)
+digit_back zero rest out whole h l n e = absurd (omega arith)
+digit_back (suc k) rest out whole h l n e = let p : suc k - 1 ≡ k = omega arith in rw p (digit_put k rest out whole (omega arith) n e)
 
 -- the last four digits, behind the others
 pub four_more : (x : ℕ) → 10000 ≤ x → decimal x ≡ decimal (x / 10000) ++ last_four x

@@ -1,11 +1,10 @@
 -- The digits of a stamp, the last four apart.
-use Rattle.std.proofs.Common.{◌≡◌, ℕ, ◌+◌, ◌*◌, ◌/◌, ◌%◌, ◌<◌, ◌≤◌, Bool, true, ◌&&◌, eqb, List, [], ◌∷◌, ◌++◌, length, get_or, take, refl, ◌∙◌, zero-add, arith, take_at, eqb-true}
+use Rattle.std.proofs.Common.{◌≡◌, ℕ, ◌+◌, ◌*◌, ◌/◌, ◌%◌, ◌<◌, ◌≤◌, Bool, true, ◌&&◌, eqb, List, [], ◌∷◌, ◌++◌, length, get_or, take, refl, arith, take_at, eqb-true}
 use Rattle.rules.specs.Lines.{decimal}
 use Rattle.rules.proofs.Tests.{both_true}
 use Rattle.rules.proofs.Onward.{onward, at_each}
-use Rattle.lines.specs.declared.stamps.Lead.{Lead}
-use Rattle.lines.specs.Written.{Put}
-use Rattle.lines.specs.Quick.{last_four, PairsGood, LeadGood}
+use Rattle.lines.specs.Written.{Lined}
+use Rattle.lines.specs.Stamps.{last_four, LeadGood, PairsGood}
 use Rattle.lines.proofs.Decimals.{short, four_more}
 
 -- ---- two digits at a time
@@ -28,18 +27,16 @@ module _ (pairs : List ℕ) where
       rw (good.tens (x / 100) (omega arith), good.ones (x / 100) (omega arith), good.tens (x % 100) (omega arith), good.ones (x % 100) (omega arith), a, c, d)
 
 -- ---- the digits before them
-pub lead_put : (x r : ℕ) (old new : List ℕ) → 1 ≤ x → x < 429496 → length new ≡ 8 → Put 0 (decimal x) old new r
-    → LeadGood (record { base = 10000 * x; text = new; size = r })
+pub lead_put : (x r : ℕ) (old new : List ℕ) → 1 ≤ x → x < 429496 → length new ≡ 8 → Lined (decimal x) old new r → LeadGood (10000 * x) new r
 lead_put x r old new l h n p =
-    let e : r ≡ length (decimal x) = p.behind ∙ zero-add (length (decimal x)) in
     let q : 10000 * x / 10000 ≡ x = omega arith in
     record {
       long = n;
-      fits = omega (arith, short 5 x (omega arith));
+      fits = omega (arith, p.count, short 5 x (omega arith));
       even = omega arith;
       from = omega arith;
       upto = omega arith;
-      text = rw (q, e, p.memory) (take_at (decimal x) _ (length (decimal x)) refl);
+      digits = rw (q, p.count, p.memory) (take_at (decimal x) _ (length (decimal x)) refl);
     }
 
 same_four : (q rest : ℕ) → rest < 10000 → last_four (10000 * q + rest) ≡ last_four rest
@@ -50,9 +47,9 @@ same_four q rest h =
     let d : (10000 * q + rest) % 10 ≡ rest % 10 = omega arith in
     rw (a, b, c, d)
 
-pub lead_digits : (lead : Lead) (rest : ℕ) → LeadGood lead → rest < 10000 → take lead.size lead.text ++ last_four rest ≡ decimal (lead.base + rest)
-lead_digits lead rest good h =
+pub lead_digits : {base size : ℕ} {text : List ℕ} (rest : ℕ) → LeadGood base text size → rest < 10000 → take size text ++ last_four rest ≡ decimal (base + rest)
+lead_digits {base} rest good h =
     let f = good.from in
-    let m : lead.base ≡ 10000 * (lead.base / 10000) = omega (arith, good.even) in
-    let q : (lead.base + rest) / 10000 ≡ lead.base / 10000 = omega arith in
-    rw (good.text, four_more (lead.base + rest) (omega arith), q, ← same_four (lead.base / 10000) rest h, ← m)
+    let m : base ≡ 10000 * (base / 10000) = omega (arith, good.even) in
+    let q : (base + rest) / 10000 ≡ base / 10000 = omega arith in
+    rw (good.digits, four_more (base + rest) (omega arith), q, ← same_four (base / 10000) rest h, ← m)

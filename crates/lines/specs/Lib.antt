@@ -3,5 +3,6 @@ pub mod Values
 pub mod Written
 pub mod Parts
 pub mod Names
+pub mod Stamps
 pub mod Quick
 pub mod Runs

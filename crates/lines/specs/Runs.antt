@@ -1,13 +1,14 @@
 -- The lines of entries that stand one behind the other, ten bytes each.
-use Rattle.std.specs.Prelude.{◌≡◌, ℕ, zero, suc, ◌+◌, ◌-◌, ◌/◌, ◌≤◌, min, Bool, cond, List, [], ◌++◌, drop, ◌==◌}
+use Rattle.std.specs.Prelude.{◌≡◌, ℕ, zero, suc, ◌-◌, ◌/◌, ◌≤◌, min, Bool, cond, List, [], ◌++◌, drop, ◌==◌, unwrap_or}
 use Rattle.rules.specs.Levels.{Level, Read, level_after, read_as}
 use Rattle.rules.specs.Whose.{Whose, whose, is_of, part_of}
 use Rattle.rules.specs.Entries.{recorded_as, move_of}
 use Rattle.rules.specs.Lines.{entry_line}
-use Rattle.pins.specs.Fronts.{front_of}
+use Rattle.pins.specs.declared.Front.{Front}
+use Rattle.pins.specs.Fronts.{front_as, front_of}
 use Rattle.pins.specs.Counter.{counter_on}
-use Rattle.lines.specs.Written.{Put}
-use Rattle.lines.specs.Quick.{high_at, level_with, LeadGood}
+use Rattle.lines.specs.Written.{Lined}
+use Rattle.lines.specs.Quick.{high_at, level_with}
 use Rattle.lines.specs.declared.runs.Next.{Next}
 
 -- what the line of an entry goes by, beside its bytes: the level of the one part (two have none but awake), and the round counters of part 0 and part 1
@@ -30,6 +31,10 @@ counter_if own r n = cond own (counter_on (recorded_as r) (move_of r) n) n
 unfoldable pub standing_after : Whose → Read → Standing → Standing
 standing_after w r x = standing (level_after (move_of r) x.level) (counter_if (is_of 0 w) r x.counter) (counter_if (is_of 1 w) r x.second)
 
+-- the entry field at the start of some bytes. Where there is none its stamp and pins are 0
+abbrev pub front_in : List ℕ → Front
+front_in bs = unwrap_or (front_of bs) (front_as 0 0)
+
 module _ (sleeps paired : Bool) where
   -- what the pins are read as there, their line, and what stands then
   abbrev pub read_in : Standing → (pins : ℕ) → Read
@@ -41,12 +46,12 @@ module _ (sleeps paired : Bool) where
   abbrev pub next_on : (pins : ℕ) → Standing → Standing
   next_on p x = standing_after (whose paired p) (read_in x p) x
 
-  -- of the entry field at the start of some bytes. Where there is none its stamp and pins are 0
+  -- of the entry field at the start of some bytes
   unfoldable pub line_at : Standing → List ℕ → List ℕ
-  line_at x bs = line_on (front_of bs).stamp (front_of bs).pins x
+  line_at x bs = line_on (front_in bs).stamp (front_in bs).pins x
 
   unfoldable pub next_at : Standing → List ℕ → Standing
-  next_at x bs = next_on (front_of bs).pins x
+  next_at x bs = next_on (front_in bs).pins x
 
   -- of so many entries: their lines, and what stands then
   unfoldable pub lines_at : (count : ℕ) → Standing → List ℕ → List ℕ
@@ -62,16 +67,15 @@ abbrev pub line_count : (count bytes room : ℕ) → ℕ
 line_count c b r = min c (min (b / 10) ((r - 40) / 24))
 
 abbrev pub standing_of : Next → Standing
-standing_of x = standing (level_with x.high) x.counter x.second
+standing_of x = standing (level_with x.high) x.counters.first x.counters.second
 
 -- what is kept of the level is one of the four
 abbrev pub HighGood : (paired : Bool) → Next → Type 0
 HighGood paired x = x.high ≡ high_at paired (level_with x.high)
 
 -- one line more
-pub record Added (sleeps paired : Bool) (x : Next) (stamp pins : ℕ) (old new : List ℕ) (y : Next) : Type 0 where
-  pub line : Put x.at (line_on sleeps paired stamp pins (standing_of x)) old new y.at
+pub record Added (sleeps paired : Bool) (x : Next) (stamp pins : ℕ) (old new : List ℕ) (y : Next) (r : ℕ) : Type 0 where
+  pub line : Lined (line_on sleeps paired stamp pins (standing_of x)) old new r
   pub stands : standing_of y ≡ next_on sleeps paired pins (standing_of x)
   pub high : HighGood paired y
-  pub lead : LeadGood y.lead
-  pub small : y.at ≤ x.at + 24
+  pub small : r ≤ 24

@@ -1,5 +1,5 @@
 -- What a function answers and leaves in the slice that it is lent.
-use Rattle.std.specs.Prelude.{◌≡◌, ℕ, ◌+◌, ◌≤◌, cond, List, ◌++◌, length, take, drop, nat_le}
+use Rattle.std.specs.Prelude.{◌≡◌, ℕ, ◌≤◌, cond, List, ◌++◌, length, drop, nat_le}
 
 -- the line at the start, where there is room for any line, and its length, which is at most that room
 pub record Written (line old new : List ℕ) (r : ℕ) : Type 0 where
@@ -12,12 +12,3 @@ pub record Lined (text old new : List ℕ) (r : ℕ) : Type 0 where
   pub count : r ≡ length text
   pub fits : r ≤ length old
   pub memory : new ≡ text ++ drop (length text) old
-
--- the text in place of as many bytes
-abbrev pub placed : ℕ → List ℕ → List ℕ → List ℕ
-placed at text old = take at old ++ text ++ drop (at + length text) old
-
--- the text at a place, and the place behind it
-pub record Put (at : ℕ) (text old new : List ℕ) (r : ℕ) : Type 0 where
-  pub behind : r ≡ at + length text
-  pub memory : new ≡ placed at text old

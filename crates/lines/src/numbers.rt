@@ -1,49 +1,38 @@
-// Numbers in decimal, put at a place of a slice.
-ghost use Rattle.std.specs.Prelude.{◌≡◌, ◌+◌, ◌%◌, ◌≤◌, ◌∷◌, length};
+// Numbers in decimal, put at the start of a slice.
+ghost use Rattle.std.specs.Prelude.{◌≡◌, ◌≤◌, ◌∷◌, length};
 ghost use Rattle.rules.specs.Lines.{decimal};
-ghost use Rattle.lines.specs.Written.{Put};
+ghost use Rattle.lines.specs.Written.{Lined};
 
 use crate::text::put_text;
 
+// How many digits a number has.
 fn digits(x: u64) -> usize
     ensures { result ≡ length (decimal x) }
 {
-    let mut rest = x;
-    let mut n: usize = 1;
-    while 10 <= rest {
-        rest /= 10;
-        n += 1;
+    match x.checked_ilog10() {
+        Some(power) => power as usize + 1,
+        None => 1,
     }
-    n
-}
-
-fn digit(x: u64) -> u8
-    ensures { result ≡ 48 + x % 10 }
-{
-    48 + (x % 10) as u8
 }
 
 // From the last digit to the first.
-pub fn put_number(out: &mut [u8], at: usize, x: u64) -> usize
-    requires { at + length (decimal x) ≤ length out.old }
-    ensures { Put at (decimal x) out.old out.new result }
+pub fn put_number(out: &mut [u8], x: u64) -> usize
+    requires { length (decimal x) ≤ length out.old }
+    ensures { Lined (decimal x) out.old out.new result }
 {
-    let end = at + digits(x);
+    let size = digits(x);
     let mut rest = x;
-    let mut i = end - 1;
-    while 10 <= rest {
-        out[i] = digit(rest);
+    for i in (0..size).rev() {
+        out[i] = b'0' + (rest % 10) as u8;
         rest /= 10;
-        i -= 1;
     }
-    out[i] = digit(rest);
-    end
+    size
 }
 
-pub fn put_next(out: &mut [u8], at: usize, x: u64) -> usize
-    requires { at + length (32 ∷ decimal x) ≤ length out.old }
-    ensures { Put at (32 ∷ decimal x) out.old out.new result }
+pub fn put_next(out: &mut [u8], x: u64) -> usize
+    requires { length (32 ∷ decimal x) ≤ length out.old }
+    ensures { Lined (32 ∷ decimal x) out.old out.new result }
 {
-    let behind = put_text(out, at, b" ");
-    put_number(out, behind, x)
+    let blank = put_text(out, b" ");
+    blank + put_number(&mut out[blank..], x)
 }

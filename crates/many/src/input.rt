@@ -1,76 +1,61 @@
 // Bytes of standard input, and the length of a trace.
-ghost use Rattle.std.specs.Prelude.{◌≤◌, ◌<◌, length};
+ghost use Rattle.std.specs.Prelude.{◌<◌, ◌≤◌, IfOk, length};
 
+use std::io;
 use std::io::Read;
 
-// Standard input and output. failed: a read or a write did, which was said.
+// Why no more verdicts come.
 #[derive(Drop)]
-pub struct Streams<R> {
-    pub rt: R,
-    pub failed: bool,
+pub enum Halt {
+    // The input ends behind a trace.
+    Ended,
+    // A read fails there.
+    Failed(io::Error),
+    // The input ends inside a trace or its length.
+    Cut,
+    // A read fails there.
+    CutFailed(io::Error),
 }
 
-// One read. How many bytes came: none where the input ends, or where the read fails, which it says.
-pub fn read_some<R: Input + Eprint>(streams: &mut Streams<R>, room: &mut [u8]) -> usize
-    ensures { result ≤ length room.new }
-{
-    match streams.rt.reader().read(room) {
-        Ok(got) => got,
-        Err(e) => {
-            streams.failed = true;
-            let _ = eprintln!(streams.rt; "many: standard input: {e}");
-            0
+impl Halt {
+    // On standard error. Whether a read failed.
+    pub fn tell(&self, rt: &impl Eprint) -> bool {
+        let failed = match self {
+            Halt::Ended | Halt::Cut => false,
+            Halt::Failed(e) | Halt::CutFailed(e) => {
+                let _ = eprintln!(rt; "many: standard input: {e}");
+                true
+            }
+        };
+        if matches!(self, Halt::Cut | Halt::CutFailed(_)) {
+            let _ = eprintln!(rt; "many: the input ends inside a trace or its length");
         }
+        failed
     }
 }
 
-pub fn say_cut(rt: &impl Eprint) {
-    let _ = eprintln!(rt; "many: the input ends inside a trace or its length");
-}
-
-// The bytes from `from` on. Whether all of them came.
-fn fill<R: Input + Eprint>(streams: &mut Streams<R>, room: &mut [u8], from: usize) -> bool
-    requires { from ≤ length room.old }
+// One read inside a trace or its length. How many bytes came: some.
+pub fn read_inside(rt: &impl Input, room: &mut [u8]) -> Result<usize, Halt>
+    ensures some { IfOk result (λ n. 0 < n) }
+    ensures fits { IfOk result (λ n. n ≤ length room.new) }
 {
-    let mut have = from;
-    while have < room.len() {
-        let more = read_some(streams, &mut room[have..]);
-        if more == 0 {
-            say_cut(&streams.rt);
-            return false;
-        }
-        have += more;
+    match rt.reader().read(room) {
+        Ok(0) => Err(Halt::Cut),
+        Ok(got) => Ok(got),
+        Err(e) => Err(Halt::CutFailed(e)),
     }
-    true
 }
 
-fn wide(x: u8) -> usize
-    ensures { result < 256 }
-{
-    x as usize
-}
-
-fn big_endian(head: &[u8; 4]) -> usize {
-    let high = 256 * wide(head[0]) + wide(head[1]);
-    let low = 256 * wide(head[2]) + wide(head[3]);
-    65536 * high + low
-}
-
-#[derive(Clone, Copy)]
-pub enum Length {
-    Of(usize),
-    None,
-}
-
-// The next trace's length; none where the input ends, before it or in it.
-pub fn length_of_next<R: Input + Eprint>(streams: &mut Streams<R>) -> Length {
+// The next trace's length, four bytes.
+pub fn length_of_next(rt: &impl Input) -> Result<usize, Halt> {
     let mut head = [0u8; 4];
-    let first = read_some(streams, &mut head);
-    if first == 0 {
-        return Length::None;
+    let mut have = match rt.reader().read(&mut head) {
+        Ok(0) => return Err(Halt::Ended),
+        Ok(got) => got,
+        Err(e) => return Err(Halt::Failed(e)),
+    };
+    while have < 4 {
+        have += read_inside(rt, &mut head[have..])?;
     }
-    if fill(streams, &mut head, first) {
-        return Length::Of(big_endian(&head));
-    }
-    Length::None
+    Ok(u32::from_be_bytes(head) as usize)
 }

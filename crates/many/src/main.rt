@@ -5,101 +5,73 @@
 mod input;
 mod traces;
 
-ghost use Rattle.std.specs.Prelude.{◌+◌, ◌≤◌, length};
+ghost use Rattle.std.specs.Prelude.{◌+◌, ◌≤◌};
 
 use chunks::Verdict;
-use input::Streams;
+use input::Halt;
 use std::process::ExitCode;
-use traces::Next;
 
-// The first `wrote` bytes of the lent room are lines that are still to be printed. Not going: the input has ended, or a read or a write failed.
-#[derive(Clone, Copy)]
-struct Batch {
-    going: bool,
+// Lines that are still to be printed, in the first `wrote` bytes. There is room for one more.
+#[derive(Drop)]
+struct Lines {
+    out: [u8; 65536],
     wrote: usize,
+    ghost room: { wrote + 64 ≤ 65536 },
 }
 
-// The first bytes of `out`, to standard output. Whether all were written.
-fn put<R: Print + Eprint>(streams: &mut Streams<R>, out: &[u8], size: usize) -> bool
-    requires { size ≤ length out.now }
-{
-    match streams.rt.write_all(&out[..size]) {
-        Ok(()) => true,
-        Err(e) => {
-            streams.failed = true;
-            let _ = eprintln!(streams.rt; "many: standard output: {e}");
-            false
+impl Lines {
+    fn new() -> Self {
+        Lines {
+            out: io::large_buffer(),
+            wrote: 0,
         }
     }
-}
 
-// The verdict's line behind the others. They are printed once there is not room for any line.
-fn tell<R: Print + Eprint>(
-    streams: &mut Streams<R>,
-    out: &mut [u8],
-    wrote: usize,
-    verdict: Verdict,
-) -> Batch
-    requires { wrote + 64 ≤ length out.old }
-    ensures { result.wrote + 64 ≤ length out.new }
-{
-    let end = wrote + chunks::verdict_line(&mut out[wrote..], verdict);
-    if end <= out.len() - 64 {
-        return Batch {
-            going: true,
-            wrote: end,
-        };
+    // The verdict's line behind the others. They are printed once there is not room for any line.
+    fn tell(&mut self, rt: &impl Print, verdict: Verdict) -> std::io::Result<()> {
+        let end = self.wrote + chunks::verdict_line(&mut self.out[self.wrote..], verdict);
+        if end <= 65536 - 64 {
+            self.wrote = end;
+            return Ok(());
+        }
+        self.wrote = 0;
+        rt.write_all(&self.out[..end])
     }
-    Batch {
-        going: put(streams, out, end),
-        wrote: 0,
+
+    fn print(&self, rt: &impl Print) -> std::io::Result<()> {
+        rt.write_all(&self.out[..self.wrote])
     }
 }
 
-// One trace.
-fn turn<R: Input + Print + Eprint>(
-    streams: &mut Streams<R>,
-    buf: &mut [u8],
-    out: &mut [u8],
-    wrote: usize,
-) -> Batch
-    requires { (11 ≤ length buf.old) × (wrote + 64 ≤ length out.old) }
-    ensures { result.wrote + 64 ≤ length out.new }
-{
-    let next = traces::judge_next(streams, buf);
-    match next {
-        Next::Judged(verdict) => tell(streams, out, wrote, verdict),
-        Next::None => Batch {
-            going: false,
-            wrote: wrote,
-        },
+// Why it halts, where all that was to be printed before was.
+fn tell_all(rt: &(impl Input + Print), lines: &mut Lines) -> std::io::Result<Halt> {
+    let mut buf = io::large_buffer();
+    // A proved loop ends; no input has so many traces.
+    for _ in 0..u64::MAX {
+        match traces::judge_next(rt, &mut buf) {
+            Ok(verdict) => lines.tell(rt, verdict)?,
+            Err(halt) => return Ok(halt),
+        }
     }
+    Ok(Halt::Ended)
+}
+
+// Whether no read failed.
+fn run(rt: &(impl Input + Print + Eprint)) -> std::io::Result<bool> {
+    let mut lines = Lines::new();
+    let halt = tell_all(rt, &mut lines)?;
+    let failed = halt.tell(rt);
+    lines.print(rt)?;
+    Ok(!failed)
 }
 
 fn main(rt: HostRuntime) -> ExitCode {
-    let mut streams = Streams {
-        rt: rt,
-        failed: false,
-    };
-    let mut buf = io::large_buffer();
-    let mut out = io::large_buffer();
-    let mut at = Batch {
-        going: true,
-        wrote: 0,
-    };
-    // A proved loop ends; no input has so many traces.
-    let mut left = u64::MAX;
-    while left > 0 {
-        left -= 1;
-        at = turn(&mut streams, &mut buf, &mut out, at.wrote);
-        if !at.going {
-            put(&mut streams, &out, at.wrote);
-            break;
+    match run(&rt) {
+        Ok(true) => ExitCode::SUCCESS,
+        Ok(false) => ExitCode::FAILURE,
+        Err(e) => {
+            let _ = eprintln!(rt; "many: standard output: {e}");
+            ExitCode::FAILURE
         }
-    }
-    if streams.failed {
-        ExitCode::FAILURE
-    } else {
-        ExitCode::SUCCESS
     }
 }

@@ -6,8 +6,8 @@ use native.Mathlib.Nat.{div-one}
 use native.Mathlib.Omega.{arith}
 use borrow.Author.Tests.{eq-eqb, ne_eqb}
 use Rattle.rules.specs.Bits.{bits, on, bit}
-use Rattle.rules.specs.Pins.{by_levels, kind_at, decode, wrong_bits}
-use Rattle.rules.specs.Levels.{Level, awake, power_down, self_refresh, deep, depth, same_level, falls, Read, plain, moved, barred, fall_by, read_at, read_pins, read_pair, read_as}
+use Rattle.rules.specs.Pins.{by_levels, kind_at, wrong_bits}
+use Rattle.rules.specs.Levels.{Level, self_refresh, deep, falls, Read, plain, moved, barred, fall_by, read_at, read_pins}
 use Rattle.rules.proofs.Fields.{as_bit}
 
 -- by the number of these three levels
@@ -45,7 +45,7 @@ fall_by_lem p =
     let low : p % 8 ≡ x % 8 = omega arith in
     rw (low, low_three x, as_bit x 0, as_bit x 1, as_bit x 2) (by_levels_lem (on x 0) (on x 1) (on x 2) (on x 3) (on x 4))
 
--- ---- where a card has low clock-enable, two parts, or neither
+-- ---- where a card has low clock-enable
 module _ (l : Level) (p : ℕ) where
   pub high_bits : (p / 4194304 ≡ 0 → ⊥) → read_pins true l p ≡ plain wrong_bits
   unfolding read_pins
@@ -54,22 +54,3 @@ module _ (l : Level) (p : ℕ) where
   pub by_level : p / 4194304 ≡ 0 → read_pins true l p ≡ read_at l p
   unfolding read_pins
   by_level h = rw (eq-eqb (p / 4194304) 0 h)
-
-  pub with_sleep : (s d : Bool) → s ≡ true → read_as s d l p ≡ read_pins true l p
-  unfolding read_as
-  with_sleep s d e = rw e
-
-  pub with_pair : (s d : Bool) → s ≡ false → d ≡ true → read_as s d l p ≡ read_pair p
-  unfolding read_as
-  with_pair s d e f = rw (e, f)
-
-  pub by_pins : (s d : Bool) → s ≡ false → d ≡ false → read_as s d l p ≡ plain (decode p)
-  unfolding read_as read_pins
-  by_pins s d e f = rw (e, f)
-
-pub awake_only : (l : Level) → same_level awake l ≡ true → l ≡ awake
-unfolding same_level depth
-awake_only awake e = refl
-awake_only power_down e = absurd (let z : ◌≡◌ {A = ℕ} 0 1 = cc in omega arith)
-awake_only self_refresh e = absurd (let z : ◌≡◌ {A = ℕ} 0 1 = cc in omega arith)
-awake_only deep e = absurd (let z : ◌≡◌ {A = ℕ} 0 1 = cc in omega arith)

@@ -6,6 +6,8 @@ use mathlib.Core.List.{List, [], ◌∷◌, ◌++◌}
 use mathlib.Core.Option.{Option, none, some}
 use native.Mathlib.Omega.{arith}
 use lib.Dec.{leb, eqb}
+use Rattle.std.specs.Prelude as rust
+use Rattle.std.specs.Prelude.{Result, Ok, Some}
 use lib.ListN.{length, drop}
 use borrow.Author.Tests.{le-leb, leb-true}
 use contract.Lifetimes.{Lfts}
@@ -18,14 +20,12 @@ use Rattle.rules.specs.Pins.{encode, encode_pair}
 use Rattle.rules.specs.Writer.{big_endian, field_bytes, entry_bytes, encode_for, buffer_with, written}
 use Rattle.rules.proofs.Tests.{some_none}
 use Rattle.pins.specs.declared.Command as own
-use Rattle.pins.specs.declared.Decoded.{Decoded}
+use Rattle.pins.specs.declared.Undecoded.{Undecoded}
 use Rattle.pins.specs.declared.Front.{Front}
 use Rattle.pins.specs.declared.Level.{Level}
 use Rattle.pins.specs.declared.Read.{Read}
-use Rattle.pins.specs.declared.Told.{Told}
 use Rattle.pins.specs.declared.Whose.{Whose}
-use Rattle.pins.specs.declared.Wrote.{Wrote}
-use Rattle.pins.specs.declared.Wrote.TheVariants.{Done}
+use Rattle.pins.specs.declared.Unwritten.{Unwritten}
 use Rattle.pins.specs.Fronts.{front_as}
 use Rattle.pins.specs.Values.{command_of, told_of, refusal_of}
 use Rattle.pins.proofs.Fronts.{put_read}
@@ -40,7 +40,7 @@ use Rattle.pins.specs.contracts.selects.whose_pins as whose_pins
 use Rattle.pins.specs.contracts.writer.write_entry as write_entry
 
 -- `decode` may answer d of pins p
-abbrev pub Decodes : (p : ℕ) (d : Decoded) → Type 0
+abbrev pub Decodes : (p : ℕ) (d : Result own.Command Undecoded) → Type 0
 Decodes p d = (decode_claims tt (p, tt) d (at_exit decode.ended tt (p, tt) (tt, tt))).claim
 
 -- `read_pins` may answer r of pins p at level l
@@ -55,14 +55,14 @@ IsOf d p o = (whose_pins_claims tt (d, (p, tt)) o (at_exit whose_pins.ended tt (
 pub record Writing : Type 0 where
   pub κs : Lfts 1
   pub args : Args write_entry.signature κs
-  pub answer : Wrote
+  pub answer : Result (Unit {0}) Unwritten
   pub lasts : Lasts write_entry.ended κs args
 
 module _ (x : Writing) where
   abbrev pub paired : Bool
   paired = x.args.0
 
-  abbrev pub told : Told
+  abbrev pub told : rust.Option ℕ
   told = x.args.1.0
 
   abbrev pub stamp : ℕ
@@ -94,7 +94,7 @@ module _ (x : Writing) where
 pub record Reading : Type 0 where
   pub κs : Lfts 1
   pub args : Args entry_at.signature κs
-  pub front : Front
+  pub front : rust.Option Front
 
 abbrev pub Reads : Reading → Type 0
 Reads y = (entry_at_claims y.κs y.args y.front (at_exit entry_at.ended y.κs y.args (tt, (tt, tt)))).claim
@@ -128,20 +128,20 @@ no_refusal true false e = absurd (some_none e)
 no_refusal false b e = absurd (some_none e)
 
 module _ (x : Writing) (w : Writes x) where
-  pub puts : fits x ≡ true → 10 ≤ length (buffer x) → (x.answer ≡ Done) × (after x ≡ entry_bytes (stamp x) (pins x) ++ drop 10 (buffer x))
+  pub puts : fits x ≡ true → 10 ≤ length (buffer x) → (x.answer ≡ Ok tt) × (after x ≡ entry_bytes (stamp x) (pins x) ++ drop 10 (buffer x))
   unfolding refusal_of written buffer_with unless first_of or_else entry_bytes field_bytes big_endian
   puts f room =
       let l = le-leb 10 (length (buffer x)) room in
       let none_is = refusal_is (paired x) (told_of (told x)) (taken x) (length (buffer x)) in
-      (one_wrote x.answer Done w.0 (rw (none_is, f, l)), w.1 ∙ rw (none_is, f, l))
+      (one_wrote x.answer (Ok tt) w.0 (rw (none_is, f, l)), w.1 ∙ rw (none_is, f, l))
 
-  pub fitted : x.answer ≡ Done → (fits x ≡ true) × (10 ≤ length (buffer x))
+  pub fitted : x.answer ≡ Ok tt → (fits x ≡ true) × (10 ≤ length (buffer x))
   unfolding refusal_of
   fitted d =
       let f = no_refusal (fits x) (leb 10 (length (buffer x))) (rw d at w.0 ∙ refusal_is (paired x) (told_of (told x)) (taken x) (length (buffer x))) in
       (f.0, leb-true 10 (length (buffer x)) f.1)
 
-  pub reads : (y : Reading) → Reads y → Of x y → stamp x < 256 ^ 4 → fits x ≡ true → 10 ≤ length (buffer x) → y.front ≡ front_as true (stamp x) (pins x)
+  pub reads : (y : Reading) → Reads y → Of x y → stamp x < 256 ^ 4 → fits x ≡ true → 10 ≤ length (buffer x) → y.front ≡ Some (front_as (stamp x) (pins x))
   reads y r there small f room =
       r ∙ rw (there.1, there.0, (puts f room).1)
       (put_read (stamp x) (pins x) (drop 10 (buffer x)) small (pins_small (paired x) (told_of (told x)) (command x)))

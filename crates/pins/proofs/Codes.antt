@@ -1,12 +1,13 @@
 -- The kinds by their numbers: in the table, packed, and as what pins are.
 use Prim.Native.Nat.{ℕ, zero, suc, ◌+◌, ◌*◌, ◌/◌, ◌%◌, ◌^◌, ◌<◌}
 use mathlib.Core.Path.{◌≡◌, refl}
-use mathlib.Core.Bool.{Bool, true}
+use mathlib.Core.Bool.{Bool, true, false}
 use native.Mathlib.Nat.{add-zero, add-suc, suc-add, zero-add, div-one}
 use native.Mathlib.Omega.{arith}
 use lib.Dec.{eqb}
 use lib.ListN.{get_or}
 use borrow.Author.Tests.{eq-eqb, ne_eqb, eqb-true}
+use Rattle.std.proofs.lemmas.Bool.{eqb-false}
 use Rattle.rules.specs.Bits.{bits, on}
 use Rattle.rules.specs.Commands.{Kind, NOP, MRW, MRR, REFPB, REFAB, ACT, RD, WR, PRE, PREA, RESERVED, code}
 use Rattle.rules.specs.Pins.{by_levels, kind_at, codes_from, kind_codes, of_kind, decode}
@@ -34,6 +35,15 @@ low_levels x =
     let l = low_bit x in
     λ i. by_levels (eqb (l.0 i) 1) (eqb (l.1 i) 1) (eqb (l.2 i) 1) (eqb (l.3 i) 1) (eqb (l.4 i) 1)
 
+module _ (p : ℕ) where
+  pub high_fifth : on p 4 ≡ true → p % 32 ≡ p % 16 + 16
+  unfolding on bits
+  high_fifth h = let e = eqb-true (p / 16 % 2) 1 h in omega arith
+
+  pub low_fifth : on p 4 ≡ false → p % 32 ≡ p % 16 + 0
+  unfolding on bits
+  low_fifth h = let n = eqb-false (p / 16 % 2) 1 h in omega arith
+
 -- sixteen numbers of kinds, four bits each, for the patterns from e on
 abbrev agrees : (kinds e k : ℕ) → Bool
 agrees kinds e k = eqb (kinds / 2 ^ (k * 4) % 16) (code (kind_at (k + e)))
@@ -59,10 +69,13 @@ kind_back PREA = refl
 kind_back RESERVED = refl
 
 -- with clock enable high, CS_n low and nothing above
-module _ (p : ℕ) (cke : p / 2097152 ≡ 1) (cs : p / 1048576 % 2 ≡ 1 → ⊥) where
-  pub by_edge : decode p ≡ of_kind (kind_at (p % 1024)) p
-  unfolding decode on bits
-  by_edge = rw (eq-eqb _ _ cke, ne_eqb _ _ cs, div-one p)
+module _ (p : ℕ) (cke : p / 2097152 ≡ 1) where
+  when_low : on p 20 ≡ false → decode p ≡ of_kind (kind_at (p % 1024)) p
+  unfolding decode bits
+  when_low cs = rw (eq-eqb _ _ cke, cs, div-one p)
 
-  pub by_kind : decode p ≡ of_kind (kind_with (code (kind_at (p % 1024)))) p
-  by_kind = rw (kind_back (kind_at (p % 1024))) by_edge
+  pub by_kind : on p 20 ≡ false → decode p ≡ of_kind (kind_with (code (kind_at (p % 1024)))) p
+  by_kind cs = rw (kind_back (kind_at (p % 1024))) (when_low cs)
+
+  pub by_edge : (p / 1048576 % 2 ≡ 1 → ⊥) → decode p ≡ of_kind (kind_at (p % 1024)) p
+  by_edge cs = when_low (unfold on bits in ne_eqb _ _ cs)

@@ -4,74 +4,87 @@ use mathlib.Core.Path.{◌≡◌, refl, sym, ◌∙◌}
 use mathlib.Core.Logic.{⊎_elim}
 use mathlib.Core.Bool.{Bool, true, false, cond, ◌&&◌}
 use mathlib.Core.List.{List, [], ◌∷◌, ◌++◌}
-use native.Mathlib.Nat.{add-zero, div-one}
+use native.Mathlib.Nat.{div-one}
 use native.Mathlib.Omega.{arith}
 use lib.Dec.{leb, ltb, eqb}
 use lib.ListN.{length, get_or, take, drop, length-append, length-take, length-drop, take-append-drop, get_or-append}
-use lib.Seq.{get_or-drop, drop-drop, take-append-le, drop-append-le}
-use borrow.Author.Tests.{le-leb, lt-leb, leb-true, eq-eqb, eqb-true}
+use lib.Seq.{take_all, take-append-le, drop-append-le}
+use borrow.Author.Tests.{le-leb, lt-leb, leb-true, eq-eqb, eqb-true, ne_eqb}
+use Rattle.std.specs.Prelude.{Some, None}
 use Rattle.rules.specs.Form.{number}
 use Rattle.rules.specs.Writer.{big_endian, field_bytes, entry_bytes}
 use Rattle.rules.proofs.Tests.{lt_cases, both_true}
 use Rattle.rules.proofs.Bytes.{number_bytes}
+use Rattle.rules.proofs.Numbers.{three_bytes, four_bytes}
+use Rattle.pins.specs.declared.Front.{Front}
 use Rattle.pins.specs.Fronts.{is_head, is_entry, front_as, front_of, stamp_in}
 
-module _ (v : List ℕ) (at : ℕ) where
-  -- the head, by its first two bytes as one number
-  pub other_tag : (get_or v at 0 + 256 * get_or v (at + 1) 0 ≡ 32 → ⊥) → false ≡ is_head (drop at v)
-  other_tag n = rw (get_or-drop, get_or-drop, get_or-drop, add-zero) (go (eqb (get_or v at 0) 32) (eqb (get_or v (at + 1) 0) 0) refl refl)
+-- ---- ten bytes, the first two of them also as one number from the lower place on
+module _ (f : List ℕ) where
+  other_head : (a b c : Bool) → a && b && c ≡ false → (room : Bool)
+      → None ≡ cond (room && (a && b && c)) (Some (front_as (number (take 4 (drop 3 f))) (number (take 3 (drop 7 f))))) None
+  other_head a b c e true = rw e
+  other_head a b c e false = refl
+
+  pub other_tag : (n : ℕ) → n ≡ get_or f 0 0 + get_or f 1 0 * 256 → (n ≡ 32 → ⊥) → None ≡ front_of f
+  unfolding front_of is_entry
+  other_tag n e h = go (eqb (get_or f 0 0) 32) (eqb (get_or f 1 0) 0) refl refl
     where
-      go : (a b : Bool) → eqb (get_or v at 0) 32 ≡ a → eqb (get_or v (at + 1) 0) 0 ≡ b → false ≡ (a && b && eqb (get_or v (at + 2) 0) 7)
-      go true true e f =
-          let t = eqb-true (get_or v at 0) 32 e in
-          let h = eqb-true (get_or v (at + 1) 0) 0 f in
-          absurd (n (omega arith))
-      go true false e f = refl
-      go false b e f = refl
+      go : (a b : Bool) → eqb (get_or f 0 0) 32 ≡ a → eqb (get_or f 1 0) 0 ≡ b
+          → None ≡ cond (leb 10 (length f) && (a && b && eqb (get_or f 2 0) 7)) (Some (front_as (number (take 4 (drop 3 f))) (number (take 3 (drop 7 f))))) None
+      go true true x y =
+          let tag = eqb-true (get_or f 0 0) 32 x in
+          let high = eqb-true (get_or f 1 0) 0 y in
+          absurd (h (omega arith))
+      go true false x y = other_head true false (eqb (get_or f 2 0) 7) refl (leb 10 (length f))
+      go false b x y = other_head false b (eqb (get_or f 2 0) 7) refl (leb 10 (length f))
 
-  pub by_low : get_or v at 0 + 256 * get_or v (at + 1) 0 ≡ 32 → eqb (get_or v (at + 2) 0) 7 ≡ is_head (drop at v)
-  by_low e =
-      rw (
-        get_or-drop,
-        get_or-drop,
-        get_or-drop,
-        add-zero,
-        eq-eqb (get_or v at 0) 32 (omega arith),
-        eq-eqb (get_or v (at + 1) 0) 0 (omega arith),
-      )
+  pub other_length : (get_or f 2 0 ≡ 7 → ⊥) → None ≡ front_of f
+  unfolding front_of is_entry
+  other_length h = other_head (eqb (get_or f 0 0) 32) (eqb (get_or f 1 0) 0) (eqb (get_or f 2 0) 7) (rw (ne_eqb _ _ h) (go (eqb (get_or f 0 0) 32) (eqb (get_or f 1 0) 0))) (leb 10 (length f))
+    where
+      go : (a b : Bool) → a && b && false ≡ false
+      go true true = refl
+      go true false = refl
+      go false b = refl
 
-  -- a field, or none
-  pub no_entry : length v < at + 10 → front_as false 0 0 ≡ front_of (drop at v)
+  pub whole_field : 10 ≤ length f → (n : ℕ) → n ≡ get_or f 0 0 + get_or f 1 0 * 256 → n ≡ 32 → get_or f 2 0 ≡ 7
+      → (t : ℕ) → t ≡ get_or f 3 0 * 16777216 + get_or f 4 0 * 65536 + get_or f 5 0 * 256 + get_or f 6 0
+      → (p : ℕ) → p ≡ 65536 * get_or f 7 0 + 256 * get_or f 8 0 + get_or f 9 0 → Some (front_as t p) ≡ front_of f
+  unfolding front_of is_entry
+  whole_field room n e head seven t et p ep =
+      let stamp : number (take 4 (drop 3 f)) ≡ t = omega (arith, four_bytes f 3 (omega arith)) in
+      rw
+      (le-leb 10 (length f) room, eq-eqb (get_or f 0 0) 32 (omega arith), eq-eqb (get_or f 1 0) 0 (omega arith), seven, stamp, three_bytes f 7 (omega arith), ep)
+
+-- ---- at a place
+module _ (v : List ℕ) (at : ℕ) where
+  pub no_entry : length v < at + 10 → None ≡ front_of (drop at v)
   unfolding front_of is_entry
   no_entry h = rw (length-drop, lt-leb 10 (length v - at) (omega arith))
-
-  module _ (room : at + 10 ≤ length v) where
-    pub other_field : is_head (drop at v) ≡ false → front_as false 0 0 ≡ front_of (drop at v)
-    unfolding front_of is_entry
-    other_field h = rw (length-drop, le-leb 10 (length v - at) (omega arith), h)
-
-    pub whole_field : is_head (drop at v) ≡ true → (t p : ℕ) → t ≡ number (take 4 (drop (at + 3) v)) → p ≡ number (take 3 (drop (at + 7) v))
-        → front_as true t p ≡ front_of (drop at v)
-    unfolding front_of is_entry
-    whole_field h t p et ep = rw (length-drop, le-leb 10 (length v - at) (omega arith), h, et, ep, drop-drop, drop-drop)
 
   -- four bytes, or fewer
   pub no_stamp : length v < at + 4 → 0 ≡ stamp_in (drop at v)
   unfolding stamp_in
   no_stamp h = rw (length-drop, lt-leb 4 (length v - at) (omega arith))
 
-  pub stamp_there : at + 4 ≤ length v → number (take 4 (drop at v)) ≡ stamp_in (drop at v)
+  pub stamp_there : at + 4 ≤ length v → (xs : List ℕ) → xs ≡ take 4 (drop at v)
+      → (t : ℕ) → t ≡ get_or xs 0 0 * 16777216 + get_or xs 1 0 * 65536 + get_or xs 2 0 * 256 + get_or xs 3 0 → t ≡ stamp_in (drop at v)
   unfolding stamp_in
-  stamp_there h = rw (length-drop, le-leb 4 (length v - at) (omega arith))
+  stamp_there h xs e t s =
+      let four : length xs ≡ 4 = rw (e, length-take, length-drop) (omega arith) in
+      let sum = rw (take_all 4 xs (omega arith)) at (four_bytes xs 0 (omega arith)) in
+      let same : t ≡ number xs = omega arith in
+      same ∙ rw (e, length-drop, le-leb 4 (length v - at) (omega arith))
 
 -- a whole field has its ten bytes
-pub entry_room : (bs : List ℕ) → (front_of bs).whole ≡ true → 10 ≤ length bs
+pub entry_room : (bs : List ℕ) (f : Front) → front_of bs ≡ Some f → 10 ≤ length bs
 unfolding front_of
-entry_room bs = go (is_entry bs) refl
+entry_room bs f = go (is_entry bs) refl
   where
-    go : (x : Bool) → is_entry bs ≡ x → (cond x (front_as true (number (take 4 (drop 3 bs))) (number (take 3 (drop 7 bs)))) (front_as false 0 0)).whole ≡ true → 10 ≤ length bs
+    go : (x : Bool) → is_entry bs ≡ x → cond x (Some (front_as (number (take 4 (drop 3 bs))) (number (take 3 (drop 7 bs))))) None ≡ Some f → 10 ≤ length bs
     go true e h = leb-true 10 (length bs) (both_true (leb 10 (length bs)) (is_head bs) (unfold is_entry in e)).0
-    go false e h = absurd (let z : ◌≡◌ {A = ℕ} 0 1 = cc in omega arith)
+    go false e h = absurd cc
 
 -- and is told by them alone
 pub front_append : (a b : List ℕ) → 10 ≤ length a → front_of (a ++ b) ≡ front_of a
@@ -90,7 +103,13 @@ front_append a b h =
       take-append-le 3 (drop 7 a) b (rw length-drop (omega arith)),
     )
 
--- so what stands at a place does not hang on where the bytes are cut behind it
+-- so what stands at a place is in its ten bytes
+pub front_there : (v : List ℕ) (at : ℕ) → at + 10 ≤ length v → (xs : List ℕ) → xs ≡ take 10 (drop at v) → front_of xs ≡ front_of (drop at v)
+front_there v at h xs e =
+    rw e
+    (rw (take-append-drop 10 (drop at v)) at (sym (front_append (take 10 (drop at v)) (drop 10 (drop at v)) (rw (length-take, length-drop) (omega arith)))))
+
+-- and does not hang on where the bytes are cut behind it
 pub front_take : (v : List ℕ) (size at : ℕ) → (at + 10 ≤ length v → at + 10 ≤ size) → front_of (drop at (take size v)) ≡ front_of (drop at v)
 front_take v size at h = ⊎_elim
     (λ (p : (length v < at + 10) × (ltb (length v) (at + 10) ≡ true)). sym (no_entry (take size v) at (rw length-take (omega arith))) ∙ no_entry v at p.0)
@@ -107,7 +126,7 @@ pub field_is : (stamp pins : ℕ) → field_of stamp pins ≡ entry_bytes stamp 
 unfolding big_endian field_bytes entry_bytes
 field_is t p = rw (div-one t, div-one p)
 
-pub put_read : (stamp pins : ℕ) (rest : List ℕ) → stamp < 256 ^ 4 → pins < 256 ^ 3 → front_of (entry_bytes stamp pins ++ rest) ≡ front_as true stamp pins
+pub put_read : (stamp pins : ℕ) (rest : List ℕ) → stamp < 256 ^ 4 → pins < 256 ^ 3 → front_of (entry_bytes stamp pins ++ rest) ≡ Some (front_as stamp pins)
 unfolding front_of is_entry entry_bytes field_bytes big_endian
 put_read stamp pins rest s p =
     rw (le-leb 10 (length (entry_bytes stamp pins ++ rest)) (omega arith), number_bytes 4 stamp s, number_bytes 3 pins p)

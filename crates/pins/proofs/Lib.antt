@@ -5,9 +5,12 @@ pub mod Fronts
 pub mod Written
 pub mod Unlisted
 pub mod Rounds
+pub mod Equal
+pub mod Uncommanded
 pub mod Asleep
 pub mod Selected
 pub mod Values
+pub mod Tempered
 pub mod Promises
 pub mod Calls
 pub mod Trips

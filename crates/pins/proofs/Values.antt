@@ -5,6 +5,7 @@ use mathlib.Core.Bool.{Bool, true, false, cond}
 use mathlib.Core.List.{[], ◌∷◌}
 use mathlib.Core.Option.{Option, none, some}
 use lib.Dec.{eqb}
+use Rattle.std.specs.Prelude.{Result, Ok, Err}
 use Rattle.rules.specs.Commands as rules
 use Rattle.rules.specs.Pins as pins
 use Rattle.rules.specs.Levels as levels
@@ -15,8 +16,8 @@ use Rattle.rules.specs.Checks.{Refusal, refusal, unless, is_wrong, is_reserved, 
 use Rattle.rules.proofs.Determined.{tells}
 use Rattle.pins.specs.declared.Command.{Command}
 use Rattle.pins.specs.declared.Command.TheVariants.{Nop, Mrw, Mrr, Refpb, Refab, Act, Rd, Wr, Pre, Prea}
-use Rattle.pins.specs.declared.Decoded.{Decoded}
-use Rattle.pins.specs.declared.Decoded.TheVariants.{Good, WrongBits, Reserved}
+use Rattle.pins.specs.declared.Undecoded.{Undecoded}
+use Rattle.pins.specs.declared.Undecoded.TheVariants.{WrongBits, Reserved}
 use Rattle.pins.specs.declared.Level.{Level}
 use Rattle.pins.specs.declared.Level.TheVariants.{Awake, PowerDown, SelfRefresh, Deep}
 use Rattle.pins.specs.declared.Move.{Move}
@@ -25,8 +26,8 @@ use Rattle.pins.specs.declared.Read.{Read}
 use Rattle.pins.specs.declared.Read.TheVariants.{Plain, Moved, Asleep, Barred, Clash, Sensed}
 use Rattle.pins.specs.declared.Whose.{Whose}
 use Rattle.pins.specs.declared.Whose.TheVariants.{Sole, First, Second, Neither, Both}
-use Rattle.pins.specs.declared.Wrote.{Wrote}
-use Rattle.pins.specs.declared.Wrote.TheVariants.{Done, Unfit, NoRoom}
+use Rattle.pins.specs.declared.Unwritten.{Unwritten}
+use Rattle.pins.specs.declared.Unwritten.TheVariants.{Unfit, NoRoom}
 use Rattle.pins.specs.Values.{command_of, decoded_of, level_of, moved_of, read_of, whose_of, pins_refusal, read_refusal, pins_fail, DecodedAs, ReadAs, refusal_of}
 
 -- the code's values, back from those of the rules
@@ -42,10 +43,10 @@ command (rules.wr bank column ap) = Wr bank column ap
 command (rules.pre bank) = Pre bank
 command rules.prea = Prea
 
-abbrev decoded : pins.Decoded → Decoded
-decoded (pins.good c) = Good (command c)
-decoded pins.wrong_bits = WrongBits
-decoded pins.reserved = Reserved
+abbrev decoded : pins.Decoded → Result Command Undecoded
+decoded (pins.good c) = Ok (command c)
+decoded pins.wrong_bits = Err WrongBits
+decoded pins.reserved = Err Reserved
 
 abbrev level : levels.Level → Level
 level levels.awake = Awake
@@ -72,9 +73,9 @@ owner (whose.part p) = cond (eqb p 0) First Second
 owner whose.neither = Neither
 owner whose.both = Both
 
-abbrev wrote : Option Refusal → Wrote
-wrote none = Done
-wrote (some x) = cond (eqb x.number 14) Unfit NoRoom
+abbrev wrote : Option Refusal → Result (Unit {0}) Unwritten
+wrote none = Ok tt
+wrote (some x) = Err (cond (eqb x.number 14) Unfit NoRoom)
 
 command_back : (c : Command) → command (command_of c) ≡ c
 unfolding command_of
@@ -89,11 +90,11 @@ command_back (Wr bank column ap) = refl
 command_back (Pre bank) = refl
 command_back Prea = refl
 
-decoded_back : (d : Decoded) → decoded (decoded_of d) ≡ d
+decoded_back : (d : Result Command Undecoded) → decoded (decoded_of d) ≡ d
 unfolding decoded_of
-decoded_back (Good c) = ap Good (command_back c)
-decoded_back WrongBits = refl
-decoded_back Reserved = refl
+decoded_back (Ok c) = ap Ok (command_back c)
+decoded_back (Err WrongBits) = refl
+decoded_back (Err Reserved) = refl
 
 level_back : (l : Level) → level (level_of l) ≡ l
 unfolding level_of
@@ -125,16 +126,16 @@ owner_back Second = refl
 owner_back Neither = refl
 owner_back Both = refl
 
-wrote_back : (r : Wrote) → wrote (refusal_of r) ≡ r
+wrote_back : (r : Result (Unit {0}) Unwritten) → wrote (refusal_of r) ≡ r
 unfolding refusal_of refusal
-wrote_back Done = refl
-wrote_back Unfit = refl
-wrote_back NoRoom = refl
+wrote_back (Ok u) = refl
+wrote_back (Err Unfit) = refl
+wrote_back (Err NoRoom) = refl
 
 pub one_command : {z : rules.Command} (x y : Command) → command_of x ≡ z → command_of y ≡ z → x ≡ y
 one_command = tells command_of command command_back
 
-pub one_decoded : {z : pins.Decoded} (x y : Decoded) → decoded_of x ≡ z → decoded_of y ≡ z → x ≡ y
+pub one_decoded : {z : pins.Decoded} (x y : Result Command Undecoded) → decoded_of x ≡ z → decoded_of y ≡ z → x ≡ y
 one_decoded = tells decoded_of decoded decoded_back
 
 pub one_level : {z : levels.Level} (x y : Level) → level_of x ≡ z → level_of y ≡ z → x ≡ y
@@ -149,15 +150,15 @@ one_read = tells read_of read read_back
 pub one_whose : {z : whose.Whose} (x y : Whose) → whose_of x ≡ z → whose_of y ≡ z → x ≡ y
 one_whose = tells whose_of owner owner_back
 
-pub one_wrote : {z : Option Refusal} (x y : Wrote) → refusal_of x ≡ z → refusal_of y ≡ z → x ≡ y
+pub one_wrote : {z : Option Refusal} (x y : Result (Unit {0}) Unwritten) → refusal_of x ≡ z → refusal_of y ≡ z → x ≡ y
 one_wrote = tells refusal_of wrote wrote_back
 
 -- ---- the refusal follows from what an entry is
-plain_told : (d : Decoded) → pins_refusal d ≡ pins_fail (levels.plain (decoded_of d))
+plain_told : (d : Result Command Undecoded) → pins_refusal d ≡ pins_fail (levels.plain (decoded_of d))
 unfolding decoded_of pins_refusal pins_fail first_of or_else unless is_wrong is_reserved is_barred is_clash code_good
-plain_told (Good c) = refl
-plain_told WrongBits = refl
-plain_told Reserved = refl
+plain_told (Ok c) = refl
+plain_told (Err WrongBits) = refl
+plain_told (Err Reserved) = refl
 
 read_told : (r : Read) → read_refusal r ≡ pins_fail (read_of r)
 unfolding read_of read_refusal pins_fail first_of or_else unless is_wrong is_reserved is_barred is_clash code_good
@@ -172,7 +173,7 @@ read_told (Sensed v) = alone (mr4_good v)
     alone true = refl
     alone false = refl
 
-pub decoded_as : (p : ℕ) (d : Decoded) → decoded_of d ≡ pins.decode p → DecodedAs p d
+pub decoded_as : (p : ℕ) (d : Result Command Undecoded) → decoded_of d ≡ pins.decode p → DecodedAs p d
 decoded_as p d e = record { is = e; told = rw (← e) (plain_told d) }
 
 pub read_as : (x : levels.Read) (r : Read) → read_of r ≡ x → ReadAs x r

@@ -7,13 +7,14 @@ use mathlib.Core.Option.{Option, none, some}
 use borrow.Author.Tests.{le-leb, lt-leb}
 use lib.Dec.{leb}
 use lib.ListN.{length, drop}
+use Rattle.std.specs.Prelude.{Result, Ok, Err}
 use Rattle.rules.specs.Commands.{Command, NOP, is}
 use Rattle.rules.specs.Folds.{or_else, first_of}
 use Rattle.rules.specs.Checks.{unless}
 use Rattle.rules.specs.Pins.{writable, encode, encode_pair}
 use Rattle.rules.specs.Writer.{big_endian, field_bytes, entry_bytes, told_good, write_refusal, encode_for, buffer_with, written}
-use Rattle.pins.specs.declared.Wrote.{Wrote}
-use Rattle.pins.specs.declared.Wrote.TheVariants.{Done, Unfit, NoRoom}
+use Rattle.pins.specs.declared.Unwritten.{Unwritten}
+use Rattle.pins.specs.declared.Unwritten.TheVariants.{Unfit, NoRoom}
 use Rattle.pins.specs.Places.{other_select}
 use Rattle.pins.specs.Values.{refusal_of}
 
@@ -46,17 +47,17 @@ module _ (paired : Bool) (told : Option ℕ) (c : Command) where
 
   module _ (stamp : ℕ) (buffer : List ℕ) where
     -- the writer's promise
-    abbrev pub Writes : Wrote → List ℕ → Type 0
+    abbrev pub Writes : Result (Unit {0}) Unwritten → List ℕ → Type 0
     Writes r after = (refusal_of r ≡ write_refusal paired told c (length buffer)) × (after ≡ written paired told stamp c buffer)
 
-    pub unfit : takes ≡ false → Writes Unfit buffer
+    pub unfit : takes ≡ false → Writes (Err Unfit) buffer
     unfolding refusal_of written buffer_with unless first_of or_else
     unfit w = rw (refusal_is (length buffer), w) (refl, refl)
 
-    pub no_room : takes ≡ true → length buffer < 10 → Writes NoRoom buffer
+    pub no_room : takes ≡ true → length buffer < 10 → Writes (Err NoRoom) buffer
     unfolding refusal_of written buffer_with unless first_of or_else
     no_room w h = rw (refusal_is (length buffer), w, lt-leb 10 (length buffer) h) (refl, refl)
 
-    pub done : (after : List ℕ) → takes ≡ true → 10 ≤ length buffer → after ≡ entry_bytes stamp (encode_for paired told c) ++ drop 10 buffer → Writes Done after
+    pub done : (after : List ℕ) → takes ≡ true → 10 ≤ length buffer → after ≡ entry_bytes stamp (encode_for paired told c) ++ drop 10 buffer → Writes (Ok tt) after
     unfolding refusal_of written buffer_with unless first_of or_else entry_bytes field_bytes big_endian
     done after w h e = rw (refusal_is (length buffer), w, le-leb 10 (length buffer) h) (refl, e)

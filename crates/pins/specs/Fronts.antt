@@ -1,5 +1,5 @@
 -- What some bytes begin with: an entry field, or a stamp.
-use Rattle.std.specs.Prelude.{ℕ, Bool, true, false, cond, ◌&&◌, List, leb, eqb, length, get_or, take, drop}
+use Rattle.std.specs.Prelude.{ℕ, Bool, cond, ◌&&◌, List, Option, Some, None, leb, eqb, length, get_or, take, drop}
 use Rattle.rules.specs.Form.{number}
 use Rattle.pins.specs.declared.Front.{Front}
 
@@ -11,12 +11,12 @@ is_head bs = eqb (get_or bs 0 0) 32 && eqb (get_or bs 1 0) 0 && eqb (get_or bs 2
 unfoldable pub is_entry : List ℕ → Bool
 is_entry bs = leb 10 (length bs) && is_head bs
 
-abbrev pub front_as : Bool → (stamp pins : ℕ) → Front
-front_as w t p = record { whole = w; stamp = t; pins = p }
+abbrev pub front_as : (stamp pins : ℕ) → Front
+front_as t p = record { stamp = t; pins = p }
 
--- and hold this entry
-unfoldable pub front_of : List ℕ → Front
-front_of bs = cond (is_entry bs) (front_as true (number (take 4 (drop 3 bs))) (number (take 3 (drop 7 bs)))) (front_as false 0 0)
+-- and hold this entry, or none
+unfoldable pub front_of : List ℕ → Option Front
+front_of bs = cond (is_entry bs) (Some (front_as (number (take 4 (drop 3 bs))) (number (take 3 (drop 7 bs))))) None
 
 -- their first four as a number; 0 where there are fewer
 unfoldable pub stamp_in : List ℕ → ℕ

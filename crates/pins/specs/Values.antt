@@ -1,5 +1,6 @@
 -- The types of the code, read as the values of the rules.
-use Rattle.std.specs.Prelude.{ℕ, ◌≡◌, not, [], ◌∷◌}
+use Rattle.std.specs.Prelude as rust
+use Rattle.std.specs.Prelude.{ℕ, ◌≡◌, not, [], ◌∷◌, Result, Ok, Err, Some, None}
 use Rattle.std.proofs.Math.Option.{Option, none, some}
 use Rattle.rules.specs.Commands as rules
 use Rattle.rules.specs.Pins as pins
@@ -10,8 +11,8 @@ use Rattle.rules.specs.Folds.{first_of}
 use Rattle.rules.specs.Checks.{Refusal, refusal, unless, is_wrong, is_reserved, is_barred, is_clash, code_good}
 use Rattle.pins.specs.declared.Command.{Command}
 use Rattle.pins.specs.declared.Command.TheVariants.{Nop, Mrw, Mrr, Refpb, Refab, Act, Rd, Wr, Pre, Prea}
-use Rattle.pins.specs.declared.Decoded.{Decoded}
-use Rattle.pins.specs.declared.Decoded.TheVariants.{Good, WrongBits, Reserved}
+use Rattle.pins.specs.declared.Undecoded.{Undecoded}
+use Rattle.pins.specs.declared.Undecoded.TheVariants.{WrongBits, Reserved}
 use Rattle.pins.specs.declared.Level.{Level}
 use Rattle.pins.specs.declared.Level.TheVariants.{Awake, PowerDown, SelfRefresh, Deep}
 use Rattle.pins.specs.declared.Move.{Move}
@@ -20,10 +21,8 @@ use Rattle.pins.specs.declared.Read.{Read}
 use Rattle.pins.specs.declared.Read.TheVariants.{Plain, Moved, Asleep, Barred, Clash, Sensed}
 use Rattle.pins.specs.declared.Whose.{Whose}
 use Rattle.pins.specs.declared.Whose.TheVariants.{Sole, First, Second, Neither, Both}
-use Rattle.pins.specs.declared.Told.{Told}
-use Rattle.pins.specs.declared.Told.TheVariants.{Nobody, Part}
-use Rattle.pins.specs.declared.Wrote.{Wrote}
-use Rattle.pins.specs.declared.Wrote.TheVariants.{Done, Unfit, NoRoom}
+use Rattle.pins.specs.declared.Unwritten.{Unwritten}
+use Rattle.pins.specs.declared.Unwritten.TheVariants.{Unfit, NoRoom}
 
 unfoldable pub command_of : Command → rules.Command
 command_of Nop = rules.nop
@@ -37,10 +36,10 @@ command_of (Wr bank column ap) = rules.wr bank column ap
 command_of (Pre bank) = rules.pre bank
 command_of Prea = rules.prea
 
-unfoldable pub decoded_of : Decoded → pins.Decoded
-decoded_of (Good c) = pins.good (command_of c)
-decoded_of WrongBits = pins.wrong_bits
-decoded_of Reserved = pins.reserved
+unfoldable pub decoded_of : Result Command Undecoded → pins.Decoded
+decoded_of (Ok c) = pins.good (command_of c)
+decoded_of (Err WrongBits) = pins.wrong_bits
+decoded_of (Err Reserved) = pins.reserved
 
 unfoldable pub level_of : Level → levels.Level
 level_of Awake = levels.awake
@@ -68,15 +67,15 @@ whose_of Second = whose.part 1
 whose_of Neither = whose.neither
 whose_of Both = whose.both
 
-unfoldable pub told_of : Told → Option ℕ
-told_of Nobody = none
-told_of (Part p) = some p
+unfoldable pub told_of : rust.Option ℕ → Option ℕ
+told_of None = none
+told_of (Some p) = some p
 
 -- 6 and 7 of document 01
-unfoldable pub pins_refusal : Decoded → Option Refusal
-pins_refusal (Good c) = none
-pins_refusal WrongBits = some (refusal 6 0 0)
-pins_refusal Reserved = some (refusal 7 0 0)
+unfoldable pub pins_refusal : Result Command Undecoded → Option Refusal
+pins_refusal (Ok c) = none
+pins_refusal (Err WrongBits) = some (refusal 6 0 0)
+pins_refusal (Err Reserved) = some (refusal 7 0 0)
 
 -- and 16, 24 and 26 of document 02
 unfoldable pub read_refusal : Read → Option Refusal
@@ -94,7 +93,7 @@ pins_fail x =
     (unless (not (is_wrong x)) 6 ∷ unless (not (is_clash x)) 24 ∷ unless (not (is_reserved x)) 7 ∷ unless (not (is_barred x)) 16 ∷ unless (code_good x) 26 ∷ [])
 
 -- what the pins are, and the first of those checks that they fail
-pub record DecodedAs (p : ℕ) (r : Decoded) : Type 0 where
+pub record DecodedAs (p : ℕ) (r : Result Command Undecoded) : Type 0 where
   pub is : decoded_of r ≡ pins.decode p
   pub told : pins_refusal r ≡ pins_fail (levels.plain (pins.decode p))
 
@@ -103,7 +102,7 @@ pub record ReadAs (x : levels.Read) (r : Read) : Type 0 where
   pub told : read_refusal r ≡ pins_fail x
 
 -- 14 and 15
-unfoldable pub refusal_of : Wrote → Option Refusal
-refusal_of Done = none
-refusal_of Unfit = some (refusal 14 0 0)
-refusal_of NoRoom = some (refusal 15 0 0)
+unfoldable pub refusal_of : Result (Unit {0}) Unwritten → Option Refusal
+refusal_of (Ok u) = none
+refusal_of (Err Unfit) = some (refusal 14 0 0)
+refusal_of (Err NoRoom) = some (refusal 15 0 0)

@@ -6,6 +6,7 @@ ghost use Rattle.pins.specs.Values.{command_of, moved_of};
 use crate::{Command, Level, Move, levels};
 
 // The counter after a command with its move. One above 7 goes round as 7 does.
+#[tactic(auto, using(crate::proofs::Unlisted::unlisted), unfolding(crate::specs::Counter::counter_on, rules::specs::Commands::is, rules::specs::Commands::code, rules::specs::Commands::kind_of, rules::specs::Commands::carries, rules::specs::Commands::bare, crate::specs::Values::command_of, crate::specs::Values::level_of))]
 pub fn counter_after(counter: u8, command: Command, moved: Move) -> u8
     ensures { result ≡ counter_on (command_of command) (moved_of moved) counter }
 {
@@ -14,12 +15,8 @@ pub fn counter_after(counter: u8, command: Command, moved: Move) -> u8
     }
     match command {
         Command::Refab => 0,
-        Command::Refpb => {
-            if 7 <= counter {
-                return 0;
-            }
-            counter + 1
-        }
+        Command::Refpb if counter < 7 => counter + 1,
+        Command::Refpb => 0,
         _ => counter,
     }
 }

@@ -1,6 +1,7 @@
 // The commands on the pins: decoding, the table of kinds, and the writer; the fields that hold them; low clock-enable; two parts on one bus; temperatures; the round counter.
 #![tactic(auto)]
 
+mod bits;
 mod counter;
 mod fields;
 mod heat;
@@ -22,7 +23,7 @@ pub use table::{kind_of, kinds};
 pub use writer::write_entry;
 
 // A command with its numbers. A column is even.
-#[derive(Clone, Copy)]
+#[derive(Clone, Copy, PartialEq, Eq)]
 pub enum Command {
     Nop,
     Mrw { ma: u8, op: u8 },
@@ -36,16 +37,15 @@ pub enum Command {
     Prea,
 }
 
-// What pins are: a command, wrong bits (6), or a reserved pattern or an unlisted MA (7).
-#[derive(Clone, Copy)]
-pub enum Decoded {
-    Good(Command),
+// Why pins are no command: wrong bits (6), or a reserved pattern or an unlisted MA (7).
+#[derive(Clone, Copy, PartialEq, Eq)]
+pub enum Undecoded {
     WrongBits,
     Reserved,
 }
 
 // The level that a part is in.
-#[derive(Clone, Copy)]
+#[derive(Clone, Copy, PartialEq, Eq)]
 pub enum Level {
     Awake,
     PowerDown,
@@ -54,7 +54,7 @@ pub enum Level {
 }
 
 // Clock-enable stays, falls into a level, or rises from one.
-#[derive(Clone, Copy)]
+#[derive(Clone, Copy, PartialEq, Eq)]
 pub enum Move {
     Stays,
     Falls(Level),
@@ -63,9 +63,9 @@ pub enum Move {
 
 // What an entry is at a level: what pins are awake with clock-enable high, a move, an entry asleep, what is not permitted here (16), both CS_n low (24),
 // or a temperature, the value of MR4 that was read back.
-#[derive(Clone, Copy)]
+#[derive(Clone, Copy, PartialEq, Eq)]
 pub enum Read {
-    Plain(Decoded),
+    Plain(Result<Command, Undecoded>),
     Moved(Move),
     Asleep,
     Barred,
@@ -75,7 +75,7 @@ pub enum Read {
 
 // Whose an entry is: of the one part of a trace without tag 25; of part 0; of both, as a temperature is; of part 1; or, with both CS_n high, NOP for both and
 // of neither.
-#[derive(Clone, Copy)]
+#[derive(Clone, Copy, PartialEq, Eq)]
 pub enum Whose {
     Sole,
     First,
@@ -84,25 +84,16 @@ pub enum Whose {
     Neither,
 }
 
-// The part that the writer is told, or none.
-#[derive(Clone, Copy)]
-pub enum Told {
-    Nobody,
-    Part(u8),
-}
-
-// What the writer did: an entry written, or a refusal because of the part or of what the command carries (14) or for want of room (15).
-#[derive(Clone, Copy)]
-pub enum Wrote {
-    Done,
+// Why the writer puts no entry: because of the part or of what the command carries (14), or for want of room (15).
+#[derive(Clone, Copy, PartialEq, Eq)]
+pub enum Unwritten {
     Unfit,
     NoRoom,
 }
 
-// The entry field at a place of some bytes: whether one stands there whole, and its numbers; 0 where none does.
-#[derive(Clone, Copy)]
+// The numbers of an entry field.
+#[derive(Clone, Copy, PartialEq, Eq)]
 pub struct Front {
-    pub whole: bool,
     pub stamp: u32,
     pub pins: u32,
 }

@@ -3,6 +3,8 @@ ghost use Rattle.std.specs.Prelude.{◌≡◌, ◌*◌, ◌/◌, ◌%◌, ◌^�
 ghost use Rattle.rules.specs.Commands.{code};
 ghost use Rattle.rules.specs.Pins.{kind_at, kind_codes};
 
+use crate::bits;
+
 const KINDS: [u8; 1024] = [
     1, // MRW
     7, // WR
@@ -73,8 +75,9 @@ fn kind_in(kinds: u64, pins: u32) -> u8
 pub fn kind_of(pins: u32) -> u8
     ensures { result ≡ code (kind_at (pins % 1024)) }
 {
-    if pins / 16 % 2 == 1 {
-        return kind_in(HIGH, pins);
+    if bits::is_on(pins, 4) {
+        kind_in(HIGH, pins)
+    } else {
+        kind_in(LOW, pins)
     }
-    kind_in(LOW, pins)
 }

@@ -5,10 +5,11 @@
 
 ghost use Rattle.std.specs.Prelude.{◌+◌, ◌≤◌, ◌<◌, ◌^◌};
 
-use card::Femtoseconds;
+use card::{Card, Femtoseconds};
 use ledger::Ledger;
 use pins::{Level, Move};
 use show::{comes, enters, lent, moves, refreshed, stands};
+use std::io;
 
 mod periods;
 mod show;
@@ -20,62 +21,66 @@ fn refreshes(from: Ledger, first: u32, count: u32) -> Ledger
     requires { count ≤ 9 }
 {
     let mut ledger = from;
-    let mut i = 0;
-    while i < count {
-        let stamp = first as u64 + (i * 104) as u64;
-        if stamp < 4294967296 {
-            ledger = refreshed(ledger, stamp as u32);
+    for i in 0..count {
+        if let Some(stamp) = first.checked_add(i * 104) {
+            ledger = refreshed(ledger, stamp);
         }
-        i += 1;
     }
     ledger
 }
 
-fn paper() {
+fn paper(rt: &impl Print) -> io::Result<()> {
     let fresh = stands(0, 8, 0);
-    moves(fresh, 28079);
-    moves(fresh, 28080);
+    moves(rt, fresh, 28079)?;
+    moves(rt, fresh, 28080)?;
     let eight = refreshes(fresh, 0, 8);
-    moves(eight, 28808);
-    moves(eight, 28809);
+    moves(rt, eight, 28808)?;
+    moves(rt, eight, 28809)?;
     let nine = refreshes(fresh, 0, 9);
-    moves(nine, 832);
-    moves(nine, 28912);
-    moves(nine, 28913);
+    moves(rt, nine, 832)?;
+    moves(rt, nine, 28912)?;
+    moves(rt, nine, 28913)?;
+    Ok(())
 }
 
 // A due at the cycle where the ledger stands is not added again; a refresh at a cycle that would fail pays first.
-fn own_cycles() {
-    let due = moves(stands(0, 8, 0), 3120);
-    enters(due, 3120, false, Move::Stays);
-    enters(due, 3120, true, Move::Stays);
-    enters(stands(0, 8, 0), 3120, false, Move::Stays);
-    let full = moves(stands(0, 8, 0), 28079);
-    enters(full, 28080, true, Move::Stays);
-    enters(full, 28080, false, Move::Stays);
-    enters(full, 28081, true, Move::Stays);
-    enters(stands(0, 0, 0), 28080, false, Move::Stays);
-    enters(stands(0, 0, 0), 28081, false, Move::Stays);
-    enters(stands(0, 0, 0), 28081, true, Move::Stays);
+fn own_cycles(rt: &impl Print) -> io::Result<()> {
+    let due = moves(rt, stands(0, 8, 0), 3120)?;
+    enters(rt, due, 3120, false, Move::Stays)?;
+    enters(rt, due, 3120, true, Move::Stays)?;
+    enters(rt, stands(0, 8, 0), 3120, false, Move::Stays)?;
+    let full = moves(rt, stands(0, 8, 0), 28079)?;
+    enters(rt, full, 28080, true, Move::Stays)?;
+    enters(rt, full, 28080, false, Move::Stays)?;
+    enters(rt, full, 28081, true, Move::Stays)?;
+    enters(rt, stands(0, 0, 0), 28080, false, Move::Stays)?;
+    enters(rt, stands(0, 0, 0), 28081, false, Move::Stays)?;
+    enters(rt, stands(0, 0, 0), 28081, true, Move::Stays)?;
+    Ok(())
 }
 
-fn refusals() {
-    moves(stands(5, 17, 0), 9);
-    moves(stands(5, 8, 6), 4);
-    moves(stands(5, 8, 5), 4);
-    enters(stands(5, 255, 0), 9, true, Move::Stays);
-    enters(stands(5, 8, 5), 4, true, Move::Stays);
-    let mut bad = card::bench();
-    let none = Femtoseconds(0);
-    bad.period = none;
-    show::show(ledger::moved(stands(0, 8, 0), show::first(), bad, 1));
-    show::show(ledger::entered(
-        stands(0, 8, 0),
-        show::first(),
-        bad,
-        1,
-        show::effect(false, false, Move::Stays),
-    ));
+fn refusals(rt: &impl Print) -> io::Result<()> {
+    moves(rt, stands(5, 17, 0), 9)?;
+    moves(rt, stands(5, 8, 6), 4)?;
+    moves(rt, stands(5, 8, 5), 4)?;
+    enters(rt, stands(5, 255, 0), 9, true, Move::Stays)?;
+    enters(rt, stands(5, 8, 5), 4, true, Move::Stays)?;
+    let bad = Card {
+        period: Femtoseconds(0),
+        ..card::bench()
+    };
+    show::show(rt, ledger::moved(stands(0, 8, 0), show::first(), bad, 1))?;
+    show::show(
+        rt,
+        ledger::entered(
+            stands(0, 8, 0),
+            show::first(),
+            bad,
+            1,
+            show::effect(false, false, Move::Stays),
+        ),
+    )?;
+    Ok(())
 }
 
 // Eight intervals on, nine refreshes there, and behind them a self-refresh of so many cycles, or none.
@@ -100,33 +105,38 @@ fn all_cycles(from: Ledger, asleep: u64) -> Ledger
     requires { asleep ≤ 100000 }
 {
     let mut ledger = from;
-    let mut to = 24960;
-    while to + (833 + asleep) < 4294967296 {
+    for to in (24960..4294967296 - (833 + asleep)).step_by((25792 + asleep) as usize) {
         ledger = round(ledger, to, asleep);
-        to += 25792 + asleep;
     }
     ledger
 }
 
-fn main() {
-    paper();
-    own_cycles();
-    refusals();
-    sleeps::all();
-    temperatures::all();
-    periods::all();
-    moves(stands(0, 8, 0), 4294967295);
-    moves(stands(4294939215, 8, 4294939215), 4294967295);
-    moves(stands(4294967295, 16, 0), 4294967295);
+fn main(rt: HostRuntime) -> io::Result<()> {
+    paper(&rt)?;
+    own_cycles(&rt)?;
+    refusals(&rt)?;
+    sleeps::all(&rt)?;
+    temperatures::all(&rt)?;
+    periods::all(&rt)?;
+    moves(&rt, stands(0, 8, 0), 4294967295)?;
+    moves(&rt, stands(4294939215, 8, 4294939215), 4294967295)?;
+    moves(&rt, stands(4294967295, 16, 0), 4294967295)?;
     moves(
+        &rt,
         lent(4294967295, 16, 0, 4294967295, Level::Awake),
         4294967295,
-    );
+    )?;
     moves(
+        &rt,
         lent(4294967000, 16, 0, 4294939000, Level::Awake),
         4294967295,
-    );
-    moves(lent(4294967000, 16, 0, 4294939000, Level::Deep), 4294967295);
-    moves(all_cycles(stands(0, 8, 0), 0), 4294967295);
-    moves(all_cycles(stands(0, 8, 0), 100000), 4294940000);
+    )?;
+    moves(
+        &rt,
+        lent(4294967000, 16, 0, 4294939000, Level::Deep),
+        4294967295,
+    )?;
+    moves(&rt, all_cycles(stands(0, 8, 0), 0), 4294967295)?;
+    moves(&rt, all_cycles(stands(0, 8, 0), 100000), 4294940000)?;
+    Ok(())
 }

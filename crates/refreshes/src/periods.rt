@@ -4,6 +4,7 @@ use crate::show::{effect, first, show, show_number, show_pace, stands};
 use card::{Card, Femtoseconds};
 use ledger::Pace;
 use pins::Move;
+use std::io;
 
 fn lent_pace(next: u64, mr4: u8) -> Pace {
     Pace { next, mr4 }
@@ -11,76 +12,88 @@ fn lent_pace(next: u64, mr4: u8) -> Pace {
 
 // With the fastest latency, which every period of the range permits.
 fn with_period(fs: u64, trefi: u32) -> Card {
-    let mut next = card::bench();
-    let period = Femtoseconds(fs);
-    next.period = period;
-    next.mr2 = 0x1e;
-    next.trefi = trefi;
-    next
+    Card {
+        period: Femtoseconds(fs),
+        mr2: 0x1e,
+        trefi,
+        ..card::bench()
+    }
 }
 
-fn under(fine: Card, mr4: u8) {
-    let pace = show_pace(ledger::respaced(lent_pace(4294967296, 3), fine, 0, mr4));
-    show_number(ledger::deadline(stands(0, 8, 0), pace, fine));
-    show(ledger::moved(stands(0, 8, 0), pace, fine, 8180));
-    show(ledger::moved(stands(0, 8, 0), pace, fine, 8181));
+fn under(rt: &impl Print, fine: Card, mr4: u8) -> io::Result<()> {
+    let pace = show_pace(rt, ledger::respaced(lent_pace(4294967296, 3), fine, 0, mr4))?;
+    show_number(rt, ledger::deadline(stands(0, 8, 0), pace, fine))?;
+    show(rt, ledger::moved(stands(0, 8, 0), pace, fine, 8180))?;
+    show(rt, ledger::moved(stands(0, 8, 0), pace, fine, 8181))?;
+    Ok(())
 }
 
-fn every_code(trefi: u32) {
+fn every_code(rt: &impl Print, trefi: u32) -> io::Result<()> {
     let fine = with_period(1071811, trefi);
-    show_pace(ledger::first_pace(fine));
-    under(fine, 1);
-    under(fine, 2);
-    under(fine, 3);
-    under(fine, 4);
-    under(fine, 5);
-    under(fine, 6);
+    show_pace(rt, ledger::first_pace(fine))?;
+    for mr4 in 1..=6u8 {
+        under(rt, fine, mr4)?;
+    }
+    Ok(())
 }
 
-fn stays(card: Card, pace: Pace) {
-    show(ledger::moved(stands(0, 8, 0), pace, card, 1));
-    show(ledger::entered(
-        stands(0, 8, 0),
-        pace,
-        card,
-        1,
-        effect(false, false, Move::Stays),
-    ));
+fn stays(rt: &impl Print, card: Card, pace: Pace) -> io::Result<()> {
+    show(rt, ledger::moved(stands(0, 8, 0), pace, card, 1))?;
+    show(
+        rt,
+        ledger::entered(
+            stands(0, 8, 0),
+            pace,
+            card,
+            1,
+            effect(false, false, Move::Stays),
+        ),
+    )?;
+    Ok(())
 }
 
-fn edge(fs: u64, trefi: u32) {
+fn edge(rt: &impl Print, fs: u64, trefi: u32) -> io::Result<()> {
     let card = with_period(fs, trefi);
-    stays(card, ledger::first_pace(card));
+    stays(rt, card, ledger::first_pace(card))
 }
 
 // 13 whatever the upper half; the pace has one meaning all the same.
-fn odd(fs: u64) {
+fn odd(rt: &impl Print, fs: u64) -> io::Result<()> {
     let card = with_period(fs, 20000000);
-    stays(card, first());
-    show_pace(ledger::first_pace(card));
-    show_pace(ledger::respaced(lent_pace(18446744073709551615, 1), card, 4294967295, 1));
-    show_pace(ledger::respaced(lent_pace(0, 6), card, 4294967295, 2));
+    stays(rt, card, first())?;
+    show_pace(rt, ledger::first_pace(card))?;
+    show_pace(
+        rt,
+        ledger::respaced(lent_pace(18446744073709551615, 1), card, 4294967295, 1),
+    )?;
+    show_pace(rt, ledger::respaced(lent_pace(0, 6), card, 4294967295, 2))?;
+    Ok(())
 }
 
-fn edges() {
-    edge(937999, 3900000);
-    edge(938000, 3900000);
-    edge(100000000, 3900000);
-    edge(100000001, 3900000);
-    edge(1000500, 1000);
-    edge(1000500, 1001);
-    edge(1001000, 1001);
-    edge(1001001, 1001);
+fn edges(rt: &impl Print) -> io::Result<()> {
+    for fs in [937999, 938000, 100000000, 100000001] {
+        edge(rt, fs, 3900000)?;
+    }
+    edge(rt, 1000500, 1000)?;
+    for fs in [1000500, 1001000, 1001001] {
+        edge(rt, fs, 1001)?;
+    }
+    Ok(())
 }
 
-pub fn all() {
-    every_code(3900000);
-    every_code(1071811);
-    every_code(1071810);
-    edges();
-    odd(1250);
-    odd(4296217296);
-    odd(9223372036854775808);
-    odd(9223372036856025808);
-    odd(18446744073709551615);
+pub fn all(rt: &impl Print) -> io::Result<()> {
+    for trefi in [3900000, 1071811, 1071810] {
+        every_code(rt, trefi)?;
+    }
+    edges(rt)?;
+    for fs in [
+        1250,
+        4296217296,
+        9223372036854775808,
+        9223372036856025808,
+        18446744073709551615,
+    ] {
+        odd(rt, fs)?;
+    }
+    Ok(())
 }

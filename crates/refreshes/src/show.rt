@@ -1,10 +1,32 @@
 // A ledger moved on or taken through an entry's cycle, and its line.
-use ledger::{After, Answer, Effect, Ledger, Pace};
+use ledger::{After, Effect, Ledger, Pace, Refusal};
 use pins::{Level, Move};
+use std::{fmt, io};
 
-// The standard output's descriptor.
-const STDOUT: i32 = 1;
+// What came back.
+#[derive(Clone, Copy)]
+struct Line(After);
 
+impl fmt::Display for Line {
+    fn fmt<W: fmt::Write>(&self, f: &mut fmt::Formatter<W>) -> fmt::Result {
+        match self.0.answer {
+            Ok(()) => f.write_str("0 0 0")?,
+            Err(Refusal::BadRecord) => f.write_str("13 0 0")?,
+            Err(Refusal::Earlier) => f.write_str("5 0 0")?,
+            Err(Refusal::Overdue { rule, cycle }) => write!(f, "11 {rule} {cycle}")?,
+        }
+        let Ledger {
+            at,
+            owed,
+            since,
+            skipped,
+            level,
+        } = self.0.ledger;
+        write!(f, " {at} {owed} {since} {skipped} {}", level as u8)
+    }
+}
+
+// In the order of a line's numbers.
 pub fn lent(at: u32, owed: u8, since: u32, skipped: u32, level: Level) -> Ledger {
     Ledger {
         at,
@@ -20,49 +42,6 @@ pub fn stands(at: u32, owed: u8, since: u32) -> Ledger {
     lent(at, owed, since, 0, Level::Awake)
 }
 
-fn put(n: u64) {
-    io::print_decimal(STDOUT, n);
-    io::write_all(STDOUT, b" ");
-}
-
-fn put_refusal(number: u64, rule: u64, cycle: u64) {
-    put(number);
-    put(rule);
-    put(cycle);
-}
-
-fn put_answer(answer: Answer) {
-    match answer {
-        Answer::Done => put_refusal(0, 0, 0),
-        Answer::BadRecord => put_refusal(13, 0, 0),
-        Answer::Earlier => put_refusal(5, 0, 0),
-        Answer::Overdue { rule, cycle } => put_refusal(11, rule as u64, cycle),
-    }
-}
-
-fn depth(level: Level) -> u64 {
-    match level {
-        Level::Awake => 0,
-        Level::PowerDown => 1,
-        Level::SelfRefresh => 2,
-        Level::Deep => 3,
-    }
-}
-
-pub fn show(after: After) -> Ledger {
-    let answer = after.answer;
-    put_answer(answer);
-    let ledger = after.ledger;
-    let level = ledger.level;
-    put(ledger.at as u64);
-    put(ledger.owed as u64);
-    put(ledger.since as u64);
-    put(ledger.skipped as u64);
-    io::print_decimal(STDOUT, depth(level));
-    io::write_all(STDOUT, b"\n");
-    ledger
-}
-
 pub fn effect(counted: bool, sensed: bool, moved: Move) -> Effect {
     Effect {
         counted,
@@ -76,53 +55,59 @@ pub fn first() -> Pace {
     ledger::first_pace(card::bench())
 }
 
-pub fn moves_at(ledger: Ledger, pace: Pace, to: u32) -> Ledger {
-    show(ledger::moved(ledger, pace, card::bench(), to))
-}
-
-pub fn enters_at(ledger: Ledger, pace: Pace, stamp: u32, effect: Effect) -> Ledger {
-    show(ledger::entered(ledger, pace, card::bench(), stamp, effect))
-}
-
-pub fn moves(ledger: Ledger, to: u32) -> Ledger {
-    moves_at(ledger, first(), to)
-}
-
-pub fn enters(ledger: Ledger, stamp: u32, counted: bool, moved: Move) -> Ledger {
-    enters_at(ledger, first(), stamp, effect(counted, false, moved))
-}
-
 // An entry that is no counted refresh, with its move; and a refresh. The ledger then, with no line.
 pub fn comes(ledger: Ledger, stamp: u32, moved: Move) -> Ledger {
-    ledger::entered(
-        ledger,
-        first(),
-        card::bench(),
-        stamp,
-        effect(false, false, moved),
-    )
-    .ledger
+    let effect = effect(false, false, moved);
+    ledger::entered(ledger, first(), card::bench(), stamp, effect).ledger
 }
 
 pub fn refreshed(ledger: Ledger, stamp: u32) -> Ledger {
-    ledger::entered(
-        ledger,
-        first(),
-        card::bench(),
-        stamp,
-        effect(true, false, Move::Stays),
+    let effect = effect(true, false, Move::Stays);
+    ledger::entered(ledger, first(), card::bench(), stamp, effect).ledger
+}
+
+pub fn show(rt: &impl Print, after: After) -> io::Result<Ledger> {
+    println!(rt; "{}", Line(after))?;
+    Ok(after.ledger)
+}
+
+pub fn moves_at(rt: &impl Print, ledger: Ledger, pace: Pace, to: u32) -> io::Result<Ledger> {
+    show(rt, ledger::moved(ledger, pace, card::bench(), to))
+}
+
+pub fn enters_at(
+    rt: &impl Print,
+    ledger: Ledger,
+    pace: Pace,
+    stamp: u32,
+    effect: Effect,
+) -> io::Result<Ledger> {
+    show(
+        rt,
+        ledger::entered(ledger, pace, card::bench(), stamp, effect),
     )
-    .ledger
+}
+
+pub fn moves(rt: &impl Print, ledger: Ledger, to: u32) -> io::Result<Ledger> {
+    moves_at(rt, ledger, first(), to)
+}
+
+pub fn enters(
+    rt: &impl Print,
+    ledger: Ledger,
+    stamp: u32,
+    counted: bool,
+    moved: Move,
+) -> io::Result<Ledger> {
+    enters_at(rt, ledger, first(), stamp, effect(counted, false, moved))
 }
 
 // A line of one number, and one of a pace.
-pub fn show_number(n: u64) {
-    io::print_decimal(STDOUT, n);
-    io::write_all(STDOUT, b"\n");
+pub fn show_number(rt: &impl Print, n: u64) -> io::Result<()> {
+    println!(rt; "{n}")
 }
 
-pub fn show_pace(pace: Pace) -> Pace {
-    put(pace.next);
-    show_number(pace.mr4 as u64);
-    pace
+pub fn show_pace(rt: &impl Print, pace: Pace) -> io::Result<Pace> {
+    println!(rt; "{} {}", pace.next, pace.mr4)?;
+    Ok(pace)
 }

@@ -1,146 +1,119 @@
-// The lines that are written.
+// What a line tells.
 use bank::Paid;
-use ledger::After;
-use pins::Wrote;
-use step::Answer;
+use pins::Unwritten;
+use std::fmt;
+use step::Refusal;
 
-// The standard output's descriptor.
-const STDOUT: i32 = 1;
-
-fn number(n: u64) {
-    io::print_decimal(STDOUT, n);
+// What a call was answered with.
+#[derive(Clone, Copy)]
+pub enum Told {
+    Taken,
+    Refused { number: u8, rule: u8, cycle: u64 },
+    Owes(Owing),
+    OweBoth(Owing, Owing),
 }
 
-fn blank() {
-    io::write_all(STDOUT, b" ");
+// A ledger's number, to which the code adds 8.
+#[derive(Clone, Copy)]
+pub struct Owing(u8);
+
+fn refused(number: u8) -> Told {
+    Told::Refused {
+        number,
+        rule: 0,
+        cycle: 0,
+    }
 }
 
-fn newline() {
-    io::write_all(STDOUT, b"\n");
+impl From<Refusal> for Told {
+    fn from(refusal: Refusal) -> Self {
+        match refusal {
+            Refusal::BadRecord => refused(13),
+            Refusal::Early => refused(5),
+            Refusal::Overdue { rule, cycle } => Told::Refused {
+                number: 11,
+                rule,
+                cycle,
+            },
+            Refusal::WrongBits => refused(6),
+            Refusal::Clash => refused(24),
+            Refusal::Reserved => refused(7),
+            Refusal::State => refused(8),
+            Refusal::Barred => refused(16),
+            Refusal::Value => refused(9),
+            Refusal::Code => refused(26),
+            Refusal::TooSoon { rule, cycle } => Told::Refused {
+                number: 10,
+                rule,
+                cycle,
+            },
+        }
+    }
 }
 
-pub fn of_case(case: u32) {
-    number(case as u64);
-    blank();
+impl From<ledger::Refusal> for Told {
+    fn from(refusal: ledger::Refusal) -> Self {
+        match refusal {
+            ledger::Refusal::BadRecord => refused(13),
+            ledger::Refusal::Earlier => refused(5),
+            ledger::Refusal::Overdue { rule, cycle } => Told::Refused {
+                number: 11,
+                rule,
+                cycle,
+            },
+        }
+    }
 }
 
-fn refused(no: u64, rule: u64, cycle: u64) {
-    io::write_all(STDOUT, b"refused ");
-    number(no);
-    blank();
-    number(rule);
-    blank();
-    number(cycle);
-    newline();
+impl From<Unwritten> for Told {
+    fn from(unwritten: Unwritten) -> Self {
+        match unwritten {
+            Unwritten::Unfit => refused(14),
+            Unwritten::NoRoom => refused(15),
+        }
+    }
 }
 
-fn taken() {
-    io::write_all(STDOUT, b"taken\n");
+impl fmt::Display for Owing {
+    fn fmt<W: fmt::Write>(&self, f: &mut fmt::Formatter<W>) -> fmt::Result {
+        write!(f, "{}", i16::from(self.0) - 8)
+    }
 }
 
-pub fn of_step(answer: Answer) {
+impl fmt::Display for Told {
+    fn fmt<W: fmt::Write>(&self, f: &mut fmt::Formatter<W>) -> fmt::Result {
+        match *self {
+            Told::Taken => f.write_str("taken"),
+            Told::Refused {
+                number,
+                rule,
+                cycle,
+            } => write!(f, "refused {number} {rule} {cycle}"),
+            Told::Owes(owing) => write!(f, "{owing}"),
+            Told::OweBoth(first, second) => write!(f, "{first} {second}"),
+        }
+    }
+}
+
+pub fn of_step(answer: Result<(), Refusal>) -> Told {
     match answer {
-        Answer::Taken => taken(),
-        Answer::BadRecord => refused(13, 0, 0),
-        Answer::Early => refused(5, 0, 0),
-        Answer::Overdue { rule, cycle } => refused(11, rule as u64, cycle),
-        Answer::WrongBits => refused(6, 0, 0),
-        Answer::Clash => refused(24, 0, 0),
-        Answer::Reserved => refused(7, 0, 0),
-        Answer::State => refused(8, 0, 0),
-        Answer::Barred => refused(16, 0, 0),
-        Answer::Value => refused(9, 0, 0),
-        Answer::Code => refused(26, 0, 0),
-        Answer::TooSoon { rule, cycle } => refused(10, rule as u64, cycle),
+        Ok(()) => Told::Taken,
+        Err(refusal) => Told::from(refusal),
     }
 }
 
-// The ledger's number, to which the code adds 8.
-fn owing(owed: u8) {
-    if owed < 8 {
-        io::write_all(STDOUT, b"-");
-        number((8 - owed) as u64);
-    } else {
-        number((owed - 8) as u64);
+pub fn of_end(paired: bool, paid: Paid) -> Told {
+    let first = Owing(paid.ledgers.first.owed);
+    match paid.answer {
+        Ok(()) if paired => Told::OweBoth(first, Owing(paid.ledgers.second.owed)),
+        Ok(()) => Told::Owes(first),
+        Err(refusal) => Told::from(refusal),
     }
 }
 
-// What an account answers, where it is a refusal.
-fn unpaid(answer: ledger::Answer) {
+pub fn of_move(answer: Result<(), ledger::Refusal>, owed: u8) -> Told {
     match answer {
-        ledger::Answer::Done => {}
-        ledger::Answer::BadRecord => refused(13, 0, 0),
-        ledger::Answer::Earlier => refused(5, 0, 0),
-        ledger::Answer::Overdue { rule, cycle } => refused(11, rule as u64, cycle),
+        Ok(()) => Told::Owes(Owing(owed)),
+        Err(refusal) => Told::from(refusal),
     }
-}
-
-fn done(answer: ledger::Answer) -> bool {
-    match answer {
-        ledger::Answer::Done => true,
-        _ => false,
-    }
-}
-
-pub fn of_end(paired: bool, paid: Paid) {
-    let answer = paid.answer;
-    unpaid(answer);
-    if !done(answer) {
-        return;
-    }
-    owing(paid.ledgers.first.owed);
-    if paired {
-        blank();
-        owing(paid.ledgers.second.owed);
-    }
-    newline();
-}
-
-pub fn of_move(after: After) {
-    let answer = after.answer;
-    unpaid(answer);
-    if !done(answer) {
-        return;
-    }
-    owing(after.ledger.owed);
-    newline();
-}
-
-pub fn of_change() {
-    io::write_all(STDOUT, b"changed\n");
-}
-
-// Three bytes of pins, or the writer's refusal.
-pub fn of_written(wrote: Wrote, a: u8, b: u8, c: u8) {
-    match wrote {
-        Wrote::Done => of_three(a, b, c),
-        Wrote::Unfit => refused(14, 0, 0),
-        Wrote::NoRoom => refused(15, 0, 0),
-    }
-}
-
-fn of_three(a: u8, b: u8, c: u8) {
-    number(a as u64);
-    blank();
-    number(b as u64);
-    blank();
-    number(c as u64);
-    newline();
-}
-
-// The part, in front of what is read.
-pub fn of_part(first: bool, second: bool) {
-    if first {
-        io::write_all(STDOUT, b"0 ");
-    }
-    if second {
-        io::write_all(STDOUT, b"1 ");
-    }
-}
-
-pub fn of_act(bank: u8, row: u16) {
-    number(bank as u64);
-    blank();
-    number(row as u64);
-    newline();
 }

@@ -4,95 +4,88 @@
 // The cases are told in cases.txt; the file stdout is worked out from it by expected.py, over the list of entries.
 #![tactic(auto)]
 
+mod calls;
 mod lines;
 mod places;
-mod same;
 mod table;
 mod writing;
 
 use bank::Record;
+use calls::{Call, Part};
+use std::io;
 use step::Stepped;
 
+// Where the calls have come to.
+#[derive(Clone, Copy)]
+struct Stand {
+    case: u32,
+    part: Part,
+    rec: Record,
+}
+
 // A part that the card does not have is not looked at.
-fn stays(paired: bool, kept: bool) {
-    if paired | kept {
-        return;
+fn stays(rt: &impl Print, paired: bool, kept: bool) -> io::Result<()> {
+    if !paired && !kept {
+        println!(rt; "changed")?;
     }
-    lines::of_change();
+    Ok(())
 }
 
-fn shows(rec: Record, stepped: Stepped) -> Record {
-    let answer = stepped.answer;
-    lines::of_step(answer);
-    let kept = same::shares(rec.second, stepped.rec.second);
-    stays(rec.card.paired, kept);
-    stepped.rec
+fn steps(rt: &impl Print, stand: &mut Stand, stepped: Stepped) -> io::Result<()> {
+    println!(rt; "{} {}", stand.case, lines::of_step(stepped.answer))?;
+    let kept = stepped.rec.second == stand.rec.second;
+    stays(rt, stand.rec.card.paired, kept)?;
+    stand.rec = stepped.rec;
+    Ok(())
 }
 
-fn steps(rec: Record, stamp: u32, pins: u32) -> Record {
-    shows(rec, step::step(rec, stamp, pins))
+fn ends(rt: &impl Print, stand: &Stand, end: u32) -> io::Result<()> {
+    let paired = stand.rec.card.paired;
+    let paid = bank::close(stand.rec, end);
+    println!(rt; "{} {}", stand.case, lines::of_end(paired, paid))?;
+    let kept = paid.ledgers.second == stand.rec.second.ledger;
+    stays(rt, paired, kept)
 }
 
-fn senses(rec: Record, stamp: u32, mr4: u32) -> Record {
-    shows(rec, step::sense(rec, stamp, (mr4 % 256) as u8))
+// The ledger is moved on where it lies in the record.
+fn moves(rt: &impl Print, stand: &mut Stand, to: u32) -> io::Result<()> {
+    let case = stand.case;
+    let Record { card, pace, .. } = stand.rec;
+    let ledger = match stand.part {
+        Part::First => &mut stand.rec.first.ledger,
+        Part::Second => &mut stand.rec.second.ledger,
+    };
+    let answer = ledger::move_on(ledger, pace, card, to);
+    println!(rt; "{case} {}", lines::of_move(answer, ledger.owed))
 }
 
-fn ends(rec: Record, end: u32) -> Record {
-    let paid = bank::close(rec, end);
-    lines::of_end(rec.card.paired, paid);
-    let kept = same::ledgers(rec.second.ledger, paid.ledgers.second);
-    stays(rec.card.paired, kept);
-    rec
-}
-
-// The ledger is taken out of the record, moved on and put back.
-fn moves(rec: Record, part: u32, to: u32) -> Record {
-    let share = places::share_of(rec, part);
-    let after = ledger::moved(share.ledger, rec.pace, rec.card, to);
-    lines::of_move(after);
-    let ledger = after.ledger;
-    let mut next = share;
-    next.ledger = ledger;
-    places::with_share(rec, part, next)
-}
-
-fn called(rec: Record, case: u32, part: u32, what: u32, cycle: u32) -> Record {
-    if places::PERIOD_LOW <= what {
-        return places::put(rec, part, what, cycle);
-    }
-    if what == table::FRESH {
-        return bank::fresh_record(rec.card);
-    }
-    lines::of_case(case);
-    if table::MR4 <= what {
-        return senses(rec, cycle, what - table::MR4);
-    }
-    match what {
-        table::END => ends(rec, cycle),
-        table::MOVE => moves(rec, part, cycle),
-        _ => steps(rec, cycle, what),
-    }
-}
-
-fn main() {
-    let fresh = bank::fresh_record(card::bench());
-    let mut rec = fresh;
-    let mut case: u32 = 0;
-    let mut part: u32 = 0;
-    let mut i: usize = 0;
-    while i < table::COUNT {
-        let what = table::what_at(i);
-        let cycle = table::cycle_at(i);
-        if what == table::CASE {
-            rec = fresh;
-            case = cycle;
-            part = 0;
-        } else if what == table::PART {
-            part = cycle;
-        } else {
-            rec = called(rec, case, part, what, cycle);
+fn called(rt: &impl Print, stand: &mut Stand, call: Call) -> io::Result<()> {
+    let rec = stand.rec;
+    match call {
+        Call::Case(case) => {
+            stand.case = case;
+            stand.part = Part::First;
+            stand.rec = bank::fresh_record(card::bench());
         }
-        i += 1;
+        Call::Part(part) => stand.part = part,
+        Call::Fresh => stand.rec = bank::fresh_record(rec.card),
+        Call::Put(place) => places::put(&mut stand.rec, stand.part, place),
+        Call::Entry(pins, stamp) => steps(rt, stand, step::step(rec, stamp, pins))?,
+        Call::Temperature(mr4, stamp) => steps(rt, stand, step::sense(rec, stamp, mr4))?,
+        Call::End(end) => ends(rt, stand, end)?,
+        Call::Move(to) => moves(rt, stand, to)?,
     }
-    writing::shows();
+    Ok(())
+}
+
+fn main(rt: HostRuntime) -> io::Result<()> {
+    let mut stand = Stand {
+        case: 0,
+        part: Part::First,
+        rec: bank::fresh_record(card::bench()),
+    };
+    for call in &table::CALLS {
+        called(&rt, &mut stand, *call)?;
+    }
+    writing::shows(&rt)
 }

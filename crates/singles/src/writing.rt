@@ -1,67 +1,66 @@
 // ACT bank 5, row 1234 hex, and NOP: their pins as they are written for the part that the writer is told, or a refusal; and what is read of the ACT.
-use crate::lines;
-use pins::{Command, Decoded, Level, Read, Told, Wrote};
+use crate::lines::Told;
+use pins::{Command, Level, Read};
+use std::io;
 
-fn activate() -> Command {
-    Command::Act {
-        bank: 5,
-        row: 0x1234,
+const ACTIVATE: Command = Command::Act {
+    bank: 5,
+    row: 0x1234,
+};
+
+fn writes(rt: &impl Print, paired: bool, told: Option<u8>, command: Command) -> io::Result<()> {
+    let mut field = [0u8; 10];
+    match pins::write_entry(paired, told, 0, command, &mut field) {
+        Ok(()) => println!(rt; "{} {} {}", field[7], field[8], field[9]),
+        Err(unwritten) => println!(rt; "{}", Told::from(unwritten)),
     }
 }
 
-fn writes(paired: bool, told: Told, command: Command) {
-    let mut field = [0u8; 10];
-    let wrote = pins::write_entry(paired, told, 0, command, &mut field);
-    lines::of_written(wrote, field[7], field[8], field[9]);
+fn tells(rt: &impl Print, paired: bool) -> io::Result<()> {
+    for told in [None, Some(0), Some(1), Some(2), Some(255)] {
+        writes(rt, paired, told, ACTIVATE)?;
+        writes(rt, paired, told, Command::Nop)?;
+    }
+    Ok(())
 }
 
-fn writes_both(paired: bool, told: Told) {
-    writes(paired, told, activate());
-    writes(paired, told, Command::Nop);
-}
-
-fn tells(paired: bool) {
-    writes_both(paired, Told::Nobody);
-    writes_both(paired, Told::Part(0));
-    writes_both(paired, Told::Part(1));
-    writes_both(paired, Told::Part(2));
-    writes_both(paired, Told::Part(255));
-}
-
-fn cramped(told: Told) {
-    let mut field = [0u8; 9];
-    let wrote = pins::write_entry(true, told, 0, activate(), &mut field);
-    lines::of_written(wrote, 0, 0, 0);
-}
-
-fn shows_act(decoded: Decoded) {
-    let Decoded::Good(command) = decoded else {
-        return;
-    };
-    let Command::Act { bank, row } = command else {
-        return;
-    };
-    lines::of_act(bank, row);
+fn cramped(rt: &impl Print) -> io::Result<()> {
+    for told in [None, Some(0), Some(1), Some(2)] {
+        let mut field = [0u8; 9];
+        if let Err(unwritten) = pins::write_entry(true, told, 0, ACTIVATE, &mut field) {
+            println!(rt; "{}", Told::from(unwritten))?;
+        }
+    }
+    Ok(())
 }
 
 // Of two parts; its part stands first.
-fn reads(pins: u32) {
-    let Read::Plain(decoded) = pins::read_pins(false, true, Level::Awake, pins) else {
-        return;
-    };
+fn reads(rt: &impl Print, pins: u32) -> io::Result<()> {
     let whose = pins::whose_pins(true, pins);
-    lines::of_part(pins::is_first(whose), pins::is_second(whose));
-    shows_act(decoded);
+    if let Read::Plain(Ok(Command::Act { bank, row })) = pins::read_pins(
+        false,
+        true,
+        Level::Awake,
+        pins,
+    ) {
+        if pins::is_first(whose) {
+            rt.print("0 ")?;
+        }
+        if pins::is_second(whose) {
+            rt.print("1 ")?;
+        }
+        println!(rt; "{bank} {row}")?;
+    }
+    Ok(())
 }
 
-pub fn shows() {
-    tells(false);
-    tells(true);
-    cramped(Told::Nobody);
-    cramped(Told::Part(0));
-    cramped(Told::Part(1));
-    cramped(Told::Part(2));
-    shows_act(pins::decode(0x20d2ca));
-    reads(0x60d2ca);
-    reads(0x30d2ca);
+pub fn shows(rt: &impl Print) -> io::Result<()> {
+    tells(rt, false)?;
+    tells(rt, true)?;
+    cramped(rt)?;
+    if let Ok(Command::Act { bank, row }) = pins::decode(0x20d2ca) {
+        println!(rt; "{bank} {row}")?;
+    }
+    reads(rt, 0x60d2ca)?;
+    reads(rt, 0x30d2ca)
 }

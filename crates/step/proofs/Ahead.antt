@@ -5,24 +5,26 @@ use mathlib.Core.Bool.{Bool, true, false, cond}
 use mathlib.Core.List.{List}
 use mathlib.Core.Option.{none}
 use lib.ListN.{drop}
+use Rattle.std.specs.Prelude.{Option, Some, None, is_some, unwrap_or}
 use Rattle.rules.specs.Commands.{NOP, is}
 use Rattle.rules.specs.Entries.{entry, recorded_as}
-use Rattle.rules.proofs.Tests.{both_true}
 use Rattle.card.specs.declared.Delays.{Delays}
-use Rattle.pins.specs.Fronts.{front_of}
+use Rattle.pins.specs.declared.Front.{Front}
+use Rattle.pins.specs.Fronts.{front_as, front_of}
 use Rattle.bank.specs.declared.Share.{Share}
 use Rattle.bank.specs.declared.Record.{Record}
 use Rattle.bank.proofs.Sizes.{ShareWhole}
 use Rattle.step.specs.declared.single.Single.{Single}
-use Rattle.step.specs.declared.single.Gone.{Gone}
+use Rattle.step.specs.declared.Ran.{Ran}
 use Rattle.step.specs.Values.{record_with}
-use Rattle.step.specs.Runs.{entry_at, takes, commands_by, refreshes_by, behind}
-use Rattle.step.specs.Single.{whole, gone, gone_behind, ran_with, read_by, refusal_by, single_with, Ready}
+use Rattle.step.specs.Runs.{front_at, entry_at, takes, commands_by, refreshes_by, behind, ran}
+use Rattle.step.specs.Single.{whole, ran_with, read_by, refusal_by, single_with, Ready}
 use Rattle.step.specs.Quick.{goes_on, quick_of}
 use Rattle.step.proofs.Paced.{single_pace}
 use Rattle.step.proofs.Kept.{Good, good_with}
 use Rattle.step.proofs.Onward.{takes_if, Part, part_none, part_on}
 use Rattle.step.proofs.Alone.{commands_by_lem, refreshes_by_lem, good, refusals, record_with_lem}
+use Rattle.step.proofs.Standing.{not_so}
 use Rattle.step.proofs.Cleared.{Clears, ready_taken}
 
 -- ---- sound behind an entry that is taken
@@ -46,37 +48,48 @@ module _ (d : Delays) (s : Single) (ready : Ready s d) (arrays : ShareWhole s.sh
 -- ---- the quick run
 -- an entry that it takes is taken, and is no counted refresh
 module _ (d : Delays) (s : Single) (bs : List ℕ) (ready : Ready s d) (e : goes_on d s (front_of bs) ≡ true) where
-  cleared : Clears d s (front_of bs).stamp (front_of bs).pins
+  cleared : Clears d s (front_at bs).stamp (front_at bs).pins
   unfolding goes_on
-  cleared = ready_taken d s (front_of bs).stamp (front_of bs).pins ready (both_true (front_of bs).whole _ e).1
+  cleared = go (front_of bs) e
+    where
+      go : (o : Option Front) → goes_on d s o ≡ true → (let f = unwrap_or o (front_as 0 0) in Clears d s f.stamp f.pins)
+      go None h = not_so h
+      go (Some f) h = ready_taken d s f.stamp f.pins ready h
+
+  is_there : is_some (front_of bs) ≡ true
+  unfolding goes_on
+  is_there = go (front_of bs) e
+    where
+      go : (o : Option Front) → goes_on d s o ≡ true → is_some o ≡ true
+      go None h = not_so h
+      go (Some f) h = refl
 
   module _ (x : Share) where
     quick_takes : takes (whole x s) bs ≡ true
-    unfolding goes_on
-    quick_takes = takes_if (whole x s) bs (both_true (front_of bs).whole _ e).0 (refusals x s ready.single (entry_at bs) ∙ cleared.taken)
+    quick_takes = takes_if (whole x s) bs is_there (refusals x s ready.single (entry_at bs) ∙ cleared.taken)
 
     quick_uncounted : refreshes_by (whole x s) (entry_at bs) ≡ 0
     quick_uncounted = refreshes_by_lem x s ready.single (entry_at bs) ∙ rw cleared.uncounted
 
     -- what it adds is what the run adds
-    quick_adds : (g : Gone) → behind 10 (commands_by (whole x s) (entry_at bs)) (refreshes_by (whole x s) (entry_at bs)) (ran_with x g)
-        ≡ ran_with x (gone_behind 10 (cond (is NOP (recorded_as (read_by s (entry_at bs)))) 0 1) 0 g)
+    quick_adds : (g : Ran Single) → behind 10 (commands_by (whole x s) (entry_at bs)) (refreshes_by (whole x s) (entry_at bs)) (ran_with x g)
+        ≡ ran_with x (behind 10 (cond (is NOP (recorded_as (read_by s (entry_at bs)))) 0 1) 0 g)
     unfolding ran_with
     quick_adds g = λ i. behind 10 (commands_by_lem x s ready.single (entry_at bs) i) (quick_uncounted i) (ran_with x g)
 
 module _ (n : ℕ) (d : Delays) (s : Single) (bs : List ℕ) where
-  abbrev then : Gone
+  abbrev then : Ran Single
   then = quick_of n d (single_with s (entry_at bs)) (drop 10 bs)
 
-  quick_on : goes_on d s (front_of bs) ≡ true → quick_of (suc n) d s bs ≡ gone_behind 10 (cond (is NOP (recorded_as (read_by s (entry_at bs)))) 0 1) 0 then
+  quick_on : goes_on d s (front_of bs) ≡ true → quick_of (suc n) d s bs ≡ behind 10 (cond (is NOP (recorded_as (read_by s (entry_at bs)))) 0 1) 0 then
   unfolding quick_of
   quick_on e = rw e
 
-  quick_off : goes_on d s (front_of bs) ≡ false → quick_of (suc n) d s bs ≡ gone s 0 0 0
+  quick_off : goes_on d s (front_of bs) ≡ false → quick_of (suc n) d s bs ≡ ran s 0 0 0
   unfolding quick_of
   quick_off e = rw e
 
-abbrev PartBy : ℕ → Single → List ℕ → Share → Gone → Type 0
+abbrev PartBy : ℕ → Single → List ℕ → Share → Ran Single → Type 0
 PartBy n s bs x g = Part n (whole x s) bs (ran_with x g)
 
 abbrev PartFor : ℕ → Delays → Single → List ℕ → Type 0

@@ -1,65 +1,62 @@
 -- Answers, and what follows from their being refusals or none.
-use Prim.Native.Nat.{ℕ}
-use mathlib.Core.Path.{◌≡◌, refl, ap, sym, ◌∙◌}
-use mathlib.Core.Bool.{Bool, true, false}
+use mathlib.Core.Path.{◌≡◌, refl}
+use mathlib.Core.Bool.{true}
 use mathlib.Core.Option.{Option, none, some}
-use native.Mathlib.Omega.{arith}
-use Rattle.rules.specs.Whose.{Whose}
-use Rattle.rules.specs.Levels.{Read}
-use Rattle.rules.specs.Folds.{or_else}
-use Rattle.rules.specs.Entries.{recorded_as, move_of}
-use Rattle.rules.specs.Checks.{Refusal}
+use Rattle.std.specs.Prelude.{Result, Ok, Err, Some, None, IsErr, IsErrAnd}
+use Rattle.std.specs.Result.{result_ok}
+use Rattle.rules.specs.Checks as checks
+use Rattle.ledger.specs.Values as paid
+use Rattle.ledger.specs.declared.Refusal as ledger
 use Rattle.ledger.specs.Values.{is_none}
-use Rattle.bank.specs.declared.Record.{Record}
-use Rattle.bank.specs.After.{Changed}
-use Rattle.step.specs.declared.Answer.{Answer}
-use Rattle.step.specs.declared.Answer.TheVariants.{Taken}
-use Rattle.step.specs.declared.offering.Ruling.{Ruling}
-use Rattle.step.specs.Values.{refusal_of}
-use Rattle.step.specs.Parts.{pace_as, Settled}
+use Rattle.step.specs.declared.Refusal.{Refusal}
+use Rattle.step.specs.Values.{refused_as, refusal_of}
 
-pub not_taken : (x : Answer) → (x ≡ Taken → ⊥) → is_none (refusal_of x) ≡ false
-unfolding refusal_of is_none
-not_taken Taken h = absurd (h refl)
-not_taken x h = refl
-
-apart : true ≡ false → ⊥
-apart e = let z : ◌≡◌ {A = ℕ} 0 1 = cc in omega arith
-
-pub none_so : (o : Option Refusal) → is_none o ≡ true → o ≡ none
+pub none_so : (o : Option checks.Refusal) → is_none o ≡ true → o ≡ none
 unfolding is_none
 none_so none e = refl
-none_so (some x) e = absurd (apart (sym e))
+none_so (some x) e = absurd cc
 
-pub or_second : (first then : Answer) → is_none (refusal_of first) ≡ true → refusal_of then ≡ or_else (refusal_of first) (refusal_of then)
-unfolding or_else
-or_second first then e = rw (none_so _ e)
+module _ {A : Type 0} (r : Result A Refusal) where
+  -- of an answer that goes through, and of one that does not
+  pub ok_none : (x : A) → r ≡ Ok x → refusal_of r ≡ none
+  unfolding refusal_of
+  ok_none x e = rw e
 
-pub or_first : (first then : Answer) → is_none (refusal_of first) ≡ false → refusal_of first ≡ or_else (refusal_of first) (refusal_of then)
-unfolding or_else is_none
-or_first first then e = go (refusal_of first) e
-  where
-    go : (o : Option Refusal) → is_none o ≡ false → o ≡ or_else o (refusal_of then)
-    go none e = absurd (apart e)
-    go (some x) e = refl
+  pub err_some : (e : Refusal) → r ≡ Err e → refusal_of r ≡ some (refused_as e)
+  unfolding refusal_of
+  err_some x e = rw e
 
--- what a test says of what it tests
-pub by_test : {x y z : Bool} → x ≡ z → x ≡ y → y ≡ z
-by_test e f = sym f ∙ e
+  -- told of another value, it is the same
+  pub ok_same : {B : Type 0} (x : A) (z : B) → r ≡ Ok x → refusal_of {A = B} (Ok z) ≡ refusal_of r
+  unfolding refusal_of
+  ok_same x z e = rw e
 
-module _ (rec : Record) (t : ℕ) (w : Whose) (x : Read) (y : Ruling) where
-  pub kept_so : is_none (refusal_of y.answer) ≡ false → Settled rec t w x y (record { rec = rec; answer = y.answer })
-  unfolding is_none
-  kept_so e = record {
-    told = refl;
-    kept = λ z n. refl;
-    changed = λ n. absurd (apart (sym (ap is_none n) ∙ e));
-  }
+  pub err_same : (B : Type 0) (x : Refusal) → r ≡ Err x → refusal_of {A = B} (Err x) ≡ refusal_of r
+  unfolding refusal_of
+  err_same B x e = rw e
 
-  pub changed_so : (s : Record) → Changed rec t w (recorded_as x) (move_of x) y.ledgers (pace_as rec x y) s → is_none (refusal_of y.answer) ≡ true → Settled rec t w x y (record { rec = s; answer = Taken })
-  unfolding is_none refusal_of
-  changed_so s h e = record {
-    told = sym (none_so (refusal_of y.answer) e);
-    kept = λ z n. absurd (apart (sym e ∙ ap is_none n));
-    changed = λ n. h;
-  }
+  -- what `?` hands on of another answer
+  pub handed_on : (x : Refusal) → IsErr r × IsErrAnd r (λ (e : Refusal). e ≡ x) → r ≡ Err x
+  handed_on x h = go r h
+    where
+      go : (q : Result A Refusal) → IsErr q × IsErrAnd q (λ (e : Refusal). e ≡ x) → q ≡ Err x
+      go (Ok u) k = absurd k.1
+      go (Err e) k = rw k.1
+
+  pub handed_told : (x : ledger.Refusal) → IsErr r × IsErrAnd r (λ (e : Refusal). refused_as e ≡ paid.refused_as x) → refusal_of r ≡ some (paid.refused_as x)
+  unfolding refusal_of
+  handed_told x h = go r h
+    where
+      go : (q : Result A Refusal) → IsErr q × IsErrAnd q (λ (e : Refusal). refused_as e ≡ paid.refused_as x) → refusal_of q ≡ some (paid.refused_as x)
+      go (Ok u) k = absurd k.1
+      go (Err e) k = rw k.1
+
+-- of a result that is made an option
+module _ {A E : Type 0} where
+  pub ok_there : (r : Result A E) (x : A) → Some x ≡ result_ok r → r ≡ Ok x
+  ok_there (Ok y) x e = cc
+  ok_there (Err y) x e = absurd cc
+
+  pub err_there : (r : Result A E) → None ≡ result_ok r → (y : E) × (r ≡ Err y)
+  err_there (Ok y) e = absurd cc
+  err_there (Err y) e = (y, refl)

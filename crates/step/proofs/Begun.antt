@@ -8,6 +8,7 @@ use native.Mathlib.Omega.{arith}
 use lib.Dec.{ltb}
 use lib.ListN.{length, drop}
 use borrow.Author.Tests.{lt-ltb, ltb-true}
+use Rattle.std.specs.Prelude.{Option, Some, None}
 use Rattle.rules.specs.Lent.{ledger_to, move_refusal, moved_on}
 use Rattle.rules.proofs.Tests.{both_true}
 use Rattle.rules.proofs.Ledgers.{as_it_was}
@@ -19,13 +20,12 @@ use Rattle.ledger.specs.Values.{ledger_of, code_of, pace_of, unless_refused, Lef
 use Rattle.ledger.specs.declared.After.{After}
 use Rattle.ledger.proofs.Promises.{code_is}
 use Rattle.bank.specs.After.{once_at}
-use Rattle.bank.specs.declared.Banks.{Banks}
-use Rattle.bank.specs.declared.Bus.{Bus}
-use Rattle.bank.specs.declared.Four.{Four}
 use Rattle.step.specs.declared.single.Single.{Single}
 use Rattle.step.specs.Ready.{stands_of}
-use Rattle.step.specs.Single.{gone, gone_behind, dues_by}
-use Rattle.step.specs.Quick.{goes_on, quick_of, now_of, EndArgs}
+use Rattle.step.specs.Single.{dues_by}
+use Rattle.step.specs.Runs.{ran, behind}
+use Rattle.step.specs.declared.quick.Quick.{Quick}
+use Rattle.step.specs.Quick.{goes_on, quick_of, quick_in, now_of, EndArgs}
 use Rattle.step.proofs.Farther.{from_start}
 use Rattle.step.proofs.Cleared.{ready_parts}
 use Rattle.step.proofs.Standing.{not_so, stands_so, unrefused}
@@ -41,30 +41,31 @@ end_ledger rec t a r l = sym (code_is r.ledger) ∙ ap code_of (l.ledger ∙ mov
     moves = rw (unrefused rec t a) (unfold unless_refused moved_on in refl)
 
 -- what a loop keeps: the run from the start is the run from here
-pub record Going (d : Delays) (rec : Single) (v : List ℕ) (most : ℕ) (banks : Banks) (bus : Bus) (four : Four) (u used nops : ℕ) : Type 0 where
-  pub same : quick_of most d rec v ≡ gone_behind used (used / 10 - nops) 0 (quick_of (most - used / 10) d (now_of rec banks bus four u) (drop used v))
-  pub kept : banks.refpb ≡ rec.share.banks.refpb
+pub record Going (d : Delays) (rec : Single) (v : List ℕ) (most : ℕ) (q : Quick) : Type 0 where
+  pub same : quick_of most d rec v ≡ behind q.used (q.used / 10 - q.nops) 0 (quick_of (most - q.used / 10) d (now_of rec q.banks q.bus q.four q.last) (drop q.used v))
+  pub kept : q.banks.refpb ≡ rec.share.banks.refpb
   pub stood : stands_of rec ≡ true
-  pub ends : EndArgs rec u
-  pub whole : used ≡ 10 * (used / 10)
-  pub within : used ≤ min (10 * most) (length v)
-  pub few : nops ≤ used / 10
+  pub ends : EndArgs rec q.last
+  pub whole : q.used ≡ 10 * (q.used / 10)
+  pub within : q.used ≤ min (10 * most) (length v)
+  pub few : q.nops ≤ q.used / 10
 
 -- ---- its beginning
 module _ (d : Delays) (rec : Single) (bs : List ℕ) where
-  may_begin : (f : Front) → goes_on d rec f ≡ true → (stands_of rec && ltb rec.last.at (deadline_of rec.card rec.pace rec.share.ledger)) ≡ true
+  may_begin : (o : Option Front) → goes_on d rec o ≡ true → (stands_of rec && ltb rec.last.at (deadline_of rec.card rec.pace rec.share.ledger)) ≡ true
   unfolding goes_on
-  may_begin f e =
-      let r = ready_parts d rec f.stamp f.pins (both_true f.whole _ e).1 in
+  may_begin None e = not_so e
+  may_begin (Some f) e =
+      let r = ready_parts d rec f.stamp f.pins e in
       rw (r.0, lt-ltb rec.last.at (deadline_of rec.card rec.pace rec.share.ledger) (lt_trans r.1.above r.1.early))
 
   -- none is taken where the ledger does not stand at the last entry
-  not_begun : (stands_of rec && ltb rec.last.at (deadline_of rec.card rec.pace rec.share.ledger)) ≡ false → (most : ℕ) → gone rec 0 0 0 ≡ quick_of most d rec bs
+  not_begun : (stands_of rec && ltb rec.last.at (deadline_of rec.card rec.pace rec.share.ledger)) ≡ false → (most : ℕ) → ran rec 0 0 0 ≡ quick_of most d rec bs
   unfolding quick_of
   not_begun n zero = refl
   not_begun n (suc most) = go (goes_on d rec (front_of bs)) refl
     where
-      go : (x : Bool) → goes_on d rec (front_of bs) ≡ x → gone rec 0 0 0 ≡ quick_of (suc most) d rec bs
+      go : (x : Bool) → goes_on d rec (front_of bs) ≡ x → ran rec 0 0 0 ≡ quick_of (suc most) d rec bs
       go false e = unfold quick_of in rw e
       go true e = not_so (sym n ∙ may_begin (front_of bs) e)
 
@@ -94,14 +95,14 @@ module _ (d : Delays) (rec : Single) (bs : List ℕ) where
         };
       }
 
-  begins : stands_of rec ≡ true → (most : ℕ) → quick_of most d rec bs ≡ gone_behind 0 0 0 (quick_of most d (now_of rec rec.share.banks rec.share.bus rec.share.four rec.last.at) (drop 0 bs))
+  begins : stands_of rec ≡ true → (most : ℕ) → quick_of most d rec bs ≡ behind 0 0 0 (quick_of most d (now_of rec rec.share.banks rec.share.bus rec.share.four rec.last.at) (drop 0 bs))
   begins e most = rw (begins_there e) (sym (from_start (quick_of most d rec bs)))
 
   module _ (end : ℕ) (es : end ≡ deadline_of rec.card rec.pace rec.share.ledger) (ok : Bool) (os : ok ≡ (stands_of rec && ltb rec.last.at end)) (most : ℕ) where
-    pub unbegun : ok ≡ false → gone rec 0 0 0 ≡ quick_of most d rec bs
+    pub unbegun : ok ≡ false → ran rec 0 0 0 ≡ quick_of most d rec bs
     unbegun n = not_begun (sym (rw es at os) ∙ n) most
 
-    pub begun : ok ≡ true → Going d rec bs most rec.share.banks rec.share.bus rec.share.four rec.last.at 0 0
+    pub begun : ok ≡ true → Going d rec bs most (quick_in rec)
     begun n =
         let p = both_true (stands_of rec) _ (sym os ∙ n) in
         record {

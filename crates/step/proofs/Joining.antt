@@ -6,6 +6,7 @@ use mathlib.Core.List.{List}
 use native.Mathlib.Omega.{arith}
 use lib.ListN.{length, drop, length-drop}
 use lib.Seq.{drop-drop}
+use Rattle.std.specs.Prelude.{is_some}
 use Rattle.rules.specs.Folds.{or_else, first_of}
 use Rattle.rules.specs.Checks.{unless}
 use Rattle.rules.specs.Lent.{lent_good, step_refusal}
@@ -17,33 +18,33 @@ use Rattle.bank.specs.Values.{lent_of}
 use Rattle.bank.specs.declared.Share.{Share}
 use Rattle.bank.proofs.Sizes.{ShareWhole}
 use Rattle.step.specs.declared.single.Single.{Single}
-use Rattle.step.specs.declared.single.Gone.{Gone}
 use Rattle.step.specs.declared.Ran.{Ran}
 use Rattle.step.specs.Runs.{entry_at, takes, ran, behind, run_of}
-use Rattle.step.specs.Parts.{Prepared, onwards}
-use Rattle.step.specs.Single.{single_of, whole, gone, gone_behind, ran_with, Ready, FitGone, SoFar}
+use Rattle.step.specs.Parts.{Fitting, Prepared, onwards}
+use Rattle.step.specs.Single.{single_of, whole, ran_with, Ready, SoFar}
 use Rattle.step.proofs.Alone.{good}
 use Rattle.step.proofs.Ahead.{good_whole}
-use Rattle.step.proofs.Onward.{run_on, run_stops, Counted, run_counted, Alike, run_good, Part, behind_twice, behind_none, from_start, run_then}
+use Rattle.step.proofs.Farther.{behind_twice, behind_none, from_start}
+use Rattle.step.proofs.Onward.{run_on, run_stops, Counted, run_counted, Alike, run_good, Part, run_then}
 
-abbrev pub join : Gone → Gone → Gone
-join p r = gone_behind p.used p.commands p.refreshes r
+abbrev pub join : Ran Single → Ran Single → Ran Single
+join p r = behind p.used p.commands p.refreshes r
 
 -- how many entries are left
-abbrev pub left : ℕ → Gone → ℕ
+abbrev pub left : ℕ → Ran Single → ℕ
 left most p = most - p.used / 10
 
 -- a part of the run behind what was run so far, whatever the share that is not looked at
-abbrev pub Behind : List ℕ → ℕ → Gone → Gone → Type 0
+abbrev pub Behind : List ℕ → ℕ → Ran Single → Ran Single → Type 0
 Behind bs n p r = (x : Share) → Part n (whole x p.rec) (drop p.used bs) (ran_with x r)
 
 -- joined with what was run so far
-pub record Joined (d : Delays) (bs : List ℕ) (most : ℕ) (p r : Gone) : Type 0 where
+pub record Joined (d : Delays) (bs : List ℕ) (most : ℕ) (p r : Ran Single) : Type 0 where
   pub so_far : SoFar d bs most r
   pub same : (x : Share) → onwards bs most (ran_with x r) ≡ onwards bs most (ran_with x p)
   pub arrays : ShareWhole r.rec.share
 
-module _ (d : Delays) (bs : List ℕ) (most : ℕ) (p : Gone) (s : SoFar d bs most p) (arrays : ShareWhole p.rec.share) (r : Gone) (part : Behind bs (left most p) p r) where
+module _ (d : Delays) (bs : List ℕ) (most : ℕ) (p : Ran Single) (s : SoFar d bs most p) (arrays : ShareWhole p.rec.share) (r : Ran Single) (part : Behind bs (left most p) p r) where
   -- with a share that has its lengths
   abbrev own : Share
   own = p.rec.share
@@ -51,7 +52,7 @@ module _ (d : Delays) (bs : List ℕ) (most : ℕ) (p : Gone) (s : SoFar d bs mo
   there : Alike (whole own p.rec) (whole own r.rec)
   unfolding ran_with
   there =
-      subst (λ (q : Ran). Alike (whole own p.rec) q.rec) (sym (part own).is)
+      subst (λ (q : Ran Record). Alike (whole own p.rec) q.rec) (sym (part own).is)
       (run_good (part own).count (whole own p.rec) (drop p.used bs) (good_whole d p.rec s.sound arrays))
 
   counted : Counted (drop p.used bs) (ran_with own r)
@@ -73,7 +74,7 @@ module _ (d : Delays) (bs : List ℕ) (most : ℕ) (p : Gone) (s : SoFar d bs mo
   unfolding ran_with
   entries x = (part x).used
 
-  pub fitting : length bs < 2 ^ 64 → FitGone p r
+  pub fitting : length bs < 2 ^ 64 → Fitting p r
   fitting h = record {
     used = omega (arith, s.within, rest);
     commands = omega (arith, s.within, rest, s.commands, few_commands);
@@ -119,7 +120,7 @@ module _ (d : Delays) (bs : List ℕ) (most : ℕ) (p : Gone) (s : SoFar d bs mo
   joined_so = record { so_far = so_far_there; same = same_run; arrays = there.good.arrays.first }
 
 -- ---- where a run ends
-module _ (bs : List ℕ) (most : ℕ) (r : Ran) where
+module _ (bs : List ℕ) (most : ℕ) (r : Ran Record) where
   pub full : most ≤ r.used / 10 → onwards bs most r ≡ r
   unfolding onwards run_of
   full h = let z : most - r.used / 10 ≡ 0 = omega arith in rw z (behind_none r)
@@ -137,7 +138,7 @@ module _ (bs : List ℕ) (most : ℕ) (r : Ran) where
 -- ---- where it begins
 pub unsound : (rec : Record) (bs : List ℕ) (most : ℕ) → lent_good (lent_of rec) ≡ false → ran rec 0 0 0 ≡ run_of most rec bs
 unfolding takes
-unsound rec bs most bad = sym (run_stops rec bs (go (front_of bs).whole) most)
+unsound rec bs most bad = sym (run_stops rec bs (go (is_some (front_of bs))) most)
   where
     go : (b : Bool) → (b && is_none (step_refusal (lent_of rec) (entry_at bs))) ≡ false
     go true = unfold step_refusal first_of or_else unless is_none in rw bad
@@ -148,11 +149,11 @@ unfolding single_of lent_of pace_of
 ready_of rec d p n = record { single = n; sound = sym (good rec.second (single_of rec) n) ∙ p.good; clocks = p.clocks }
 
 module _ (s : Single) (bs : List ℕ) (most : ℕ) where
-  pub begins : (x : Share) → onwards bs most (ran_with x (gone s 0 0 0)) ≡ run_of most (whole x s) bs
+  pub begins : (x : Share) → onwards bs most (ran_with x (ran s 0 0 0)) ≡ run_of most (whole x s) bs
   unfolding onwards ran_with
   begins x = let z : most - 0 ≡ most = omega arith in rw z (from_start (run_of most (whole x s) bs))
 
-  pub begins_so_far : (d : Delays) → Ready s d → SoFar d bs most (gone s 0 0 0)
+  pub begins_so_far : (d : Delays) → Ready s d → SoFar d bs most (ran s 0 0 0)
   begins_so_far d r = record {
     sound = r;
     entries = 0;

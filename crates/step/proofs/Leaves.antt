@@ -2,14 +2,15 @@
 use Prim.Native.Nat.{ℕ}
 use mathlib.Core.Path.{◌≡◌, refl, ap, sym, ◌∙◌}
 use mathlib.Core.Bool.{Bool, true, false}
-use mathlib.Core.Option.{Option, none, some}
+use mathlib.Core.Option.{none, some}
+use Rattle.std.specs.Prelude.{Result, Ok, Err}
 use Rattle.rules.specs.Heat.{delays_at}
 use Rattle.rules.specs.Commands.{Command}
 use Rattle.rules.specs.Whose.{Whose, is_of}
 use Rattle.rules.specs.Levels.{Move, Read}
 use Rattle.rules.specs.Folds.{or_else, first_of}
-use Rattle.rules.specs.Entries.{Entry, whose_of, part_in, mr4_of}
-use Rattle.rules.specs.Checks.{Refusal, unless}
+use Rattle.rules.specs.Entries.{Entry, whose_of, part_in, recorded_as, move_of, mr4_of}
+use Rattle.rules.specs.Checks.{unless}
 use Rattle.rules.specs.Lent as lent
 use Rattle.rules.specs.Lent.{number_of, own_in, read_in, command_in, move_in, mr4_in, effect_in, effect_on, ledger_with, pace_by, pace_with, lent_good, step_refusal, lent_after}
 use Rattle.rules.proofs.Filtered.{judging_part}
@@ -28,11 +29,12 @@ use Rattle.bank.specs.Values.{share_of, share_in, lent_of}
 use Rattle.bank.specs.After.{share_after, share_taken, record_after, Changed}
 use Rattle.bank.specs.Both.{ledgers_in, ledgers_as, effect_for}
 use Rattle.bank.proofs.Changed.{after_is, good_args, entry_bank}
-use Rattle.step.specs.declared.Answer.TheVariants.{BadRecord}
+use Rattle.step.specs.declared.Refusal as answer
+use Rattle.step.specs.declared.Refusal.TheVariants.{BadRecord}
 use Rattle.step.specs.declared.Stepped.{Stepped}
-use Rattle.step.specs.declared.offering.Ruling.{Ruling}
-use Rattle.step.specs.Values.{refusal_of, second_with, record_by, record_with, Left}
-use Rattle.step.specs.Parts.{Prepared, effect_as, ledger_as, Ruled, pace_as, Settled, OfferedTo}
+use Rattle.step.specs.Values.{refused_as, refusal_of, second_with, record_by, record_with, Left}
+use Rattle.step.specs.Parts.{Prepared, effect_as, ledger_as, Ruled, pace_as, stepped_in, OfferedTo}
+use Rattle.step.proofs.Answers.{ok_none, err_some}
 use Rattle.step.proofs.Split.{step_is}
 use Rattle.step.proofs.Paced.{pace_back}
 
@@ -56,36 +58,39 @@ ChangedBy rec e g s =
     Changed rec e.stamp (whose_of (lent_of rec).card e) (command_in (lent_of rec) e) (move_in (lent_of rec) e) g (pace_in (pace_with (lent_of rec) e)) s
 
 -- ---- what is ruled of an entry, at a record that 13 lets pass
-module _ (rec : Record) (e : Entry) (good : lent_good (lent_of rec) ≡ true) (y : Ruling)
+module _ (rec : Record) (e : Entry) (good : lent_good (lent_of rec) ≡ true) (y : Result Ledgers answer.Refusal)
     (ruled : Ruled (delays_at (lent_of rec).card (lent_of rec).pace.mr4) (lent_of rec) (whose_of (lent_of rec).card e) (read_in (lent_of rec) e) e.stamp y) where
-  pub ruled_told : refusal_of y.answer ≡ step_refusal (lent_of rec) e
+  pub ruled_told : refusal_of y ≡ step_refusal (lent_of rec) e
   unfolding part_in
   ruled_told = ruled.told (judging_part (lent_of rec).card e) ∙ sym (step_is (lent_of rec) e good)
 
-  module _ (n : refusal_of y.answer ≡ none) where
-    ruled_first : ledger_of y.ledgers.first ≡ ledger_with (lent_of rec) e 0
+  module _ (g : Ledgers) (there : y ≡ Ok g) where
+    pub ruled_none : step_refusal (lent_of rec) e ≡ none
+    ruled_none = sym ruled_told ∙ ok_none y g there
+
+    ruled_first : ledger_of g.first ≡ ledger_with (lent_of rec) e 0
     unfolding ledger_as ledger_with effect_as effect_for effect_on effect_in own_in part_in
-    ruled_first = ruled.first n
+    ruled_first = ruled.first g there
 
-    ruled_second : ledger_of y.ledgers.second ≡ second_with rec e
+    ruled_second : ledger_of g.second ≡ second_with rec e
     unfolding second_with ledger_as ledger_with effect_as effect_for effect_on effect_in own_in part_in lent_of share_in share_of card_of
-    ruled_second = ruled.second n
+    ruled_second = ruled.second g there
 
-    ruled_pace : pace_as rec (read_in (lent_of rec) e) y ≡ pace_in (pace_with (lent_of rec) e)
+    ruled_pace : pace_as rec (read_in (lent_of rec) e) g ≡ pace_in (pace_with (lent_of rec) e)
     unfolding pace_with mr4_in lent_of
-    ruled_pace = ap (λ (g : lent.Ledger). pace_in (pace_by (card_of rec.card) (number_of g) (mr4_of (read_in (lent_of rec) e)) (pace_of rec.pace))) ruled_first
+    ruled_pace = ap (λ (h : lent.Ledger). pace_in (pace_by (card_of rec.card) (number_of h) (mr4_of (read_in (lent_of rec) e)) (pace_of rec.pace))) ruled_first
 
     -- the record then, to the bit
-    pub ruled_record : (s : Record) → s ≡ record_by rec e y.ledgers → s ≡ record_with rec e
+    pub ruled_record : (s : Record) → s ≡ record_by rec e g → s ≡ record_with rec e
     unfolding record_with
-    ruled_record s h = h ∙ ap (record_by rec e) (ledgers_coded y.ledgers _ _ ruled_first ruled_second)
+    ruled_record s h = h ∙ ap (record_by rec e) (ledgers_coded g _ _ ruled_first ruled_second)
 
     -- and to the rules
-    pub ruled_lent : (s : Record) → ChangedBy rec e y.ledgers s → lent_of s ≡ lent_after (lent_of rec) e
+    pub ruled_lent : (s : Record) → ChangedBy rec e g s → lent_of s ≡ lent_after (lent_of rec) e
     unfolding command_in read_in second_with
     ruled_lent s h =
-        let above = (step_passed (lent_of rec) e (sym ruled_told ∙ n)).above in
-        h.lent (good_args rec e (command_in (lent_of rec) e) good above (entry_bank _ _ e)) ∙ sym (after_is rec e y.ledgers (pace_in (pace_with (lent_of rec) e)) ruled_first ruled_second (pace_back _))
+        let above = (step_passed (lent_of rec) e ruled_none).above in
+        h.lent (good_args rec e (command_in (lent_of rec) e) good above (entry_bank _ _ e)) ∙ sym (after_is rec e g (pace_in (pace_with (lent_of rec) e)) ruled_first ruled_second (pace_back _))
 
 -- ---- the ledgers of the record then
 taken_ledger : (own : Bool) (s : Share) (c : Command) (v : Move) (t : ℕ) (g : Ledger) → (share_taken own s c v t g).ledger ≡ g
@@ -97,49 +102,48 @@ ledgers_after : (rec : Record) (w : Whose) (c : Command) (v : Move) (t : ℕ) (g
 unfolding ledgers_in record_after
 ledgers_after rec w c v t g z = λ i. ledgers_as (taken_ledger (is_of 0 w) rec.first c v t g.first i) (taken_ledger (is_of 1 w) rec.second c v t g.second i)
 
-module _ (rec : Record) (e : Entry) (r : Stepped) where
-  left_kept : (x : Refusal) → refusal_of r.answer ≡ some x → r.rec ≡ rec → Left (some x) rec e r
-  unfolding unless_refused
-  left_kept x t k = record {
-    told = t;
-    is = k;
-    first = ap (λ (s : Record). ledger_of s.first.ledger) k;
-    second = ap (λ (s : Record). ledger_of s.second.ledger) k;
-    lent = λ good. ap lent_of k;
-  }
+module _ (rec : Record) (e : Entry) where
+  -- a refusal keeps the record
+  left_kept : (x : answer.Refusal) → some (refused_as x) ≡ step_refusal (lent_of rec) e → Left (step_refusal (lent_of rec) e) rec e (stepped_in rec (Err x))
+  unfolding unless_refused stepped_in refusal_of
+  left_kept x t = rw (← t) (record { told = refl; is = refl; first = refl; second = refl; lent = λ good. refl })
 
-  module _ (good : lent_good (lent_of rec) ≡ true) (y : Ruling)
-      (ruled : Ruled (delays_at (lent_of rec).card (lent_of rec).pace.mr4) (lent_of rec) (whose_of (lent_of rec).card e) (read_in (lent_of rec) e) e.stamp y)
-      (settled : Settled rec e.stamp (whose_of (lent_of rec).card e) (read_in (lent_of rec) e) y r) where
-    left_changed : refusal_of y.answer ≡ none → Left none rec e r
-    unfolding unless_refused command_in move_in ledgers_in
-    left_changed n =
-        let h : ChangedBy rec e y.ledgers r.rec = rw (ruled_pace rec e good y ruled n) at (settled.changed n) in
-        let g : ledgers_in r.rec ≡ y.ledgers = ap ledgers_in h.is ∙ ledgers_after rec _ _ _ e.stamp y.ledgers _ in
-        record {
-          told = settled.told ∙ n;
-          is = h.is ∙ ap (record_by rec e) (sym g);
-          first = ap (λ (z : Ledgers). ledger_of z.first) g ∙ ruled_first rec e good y ruled n;
-          second = ap (λ (z : Ledgers). ledger_of z.second) g ∙ ruled_second rec e good y ruled n;
-          lent = λ good. ruled_lent rec e good y ruled n r.rec h;
-        }
+  module _ (good : lent_good (lent_of rec) ≡ true) (y : Result Ledgers answer.Refusal)
+      (ruled : Ruled (delays_at (lent_of rec).card (lent_of rec).pace.mr4) (lent_of rec) (whose_of (lent_of rec).card e) (read_in (lent_of rec) e) e.stamp y) where
+    left_out : (x : answer.Refusal) → y ≡ Err x → Left (step_refusal (lent_of rec) e) rec e (stepped_in rec (Err x))
+    left_out x h = left_kept x (sym (err_some y x h) ∙ ruled_told rec e good y ruled)
 
-    pub left_so : Left (step_refusal (lent_of rec) e) rec e r
-    left_so = go (step_refusal (lent_of rec) e) (ruled_told rec e good y ruled)
-      where
-        go : (o : Option Refusal) → refusal_of y.answer ≡ o → Left o rec e r
-        go none t = left_changed t
-        go (some x) t = left_kept x (settled.told ∙ t) (settled.kept x t)
+    module _ (g : Ledgers) (there : y ≡ Ok g) (s : Record)
+        (changed : Changed rec e.stamp (whose_of (lent_of rec).card e) (recorded_as (read_in (lent_of rec) e)) (move_of (read_in (lent_of rec) e)) g (pace_as rec (read_in (lent_of rec) e) g) s) where
+      changed_by : ChangedBy rec e g s
+      unfolding command_in move_in
+      changed_by = rw (ruled_pace rec e good y ruled g there) at changed
+
+      same_ledgers : ledgers_in s ≡ g
+      same_ledgers = ap ledgers_in changed_by.is ∙ ledgers_after rec _ _ _ e.stamp g _
+
+      left_in : Left (step_refusal (lent_of rec) e) rec e (stepped_in rec (Ok s))
+      unfolding unless_refused ledgers_in stepped_in refusal_of
+      left_in = rw (ruled_none rec e good y ruled g there) (record {
+        told = refl;
+        is = changed_by.is ∙ ap (record_by rec e) (sym same_ledgers);
+        first = ap (λ (z : Ledgers). ledger_of z.first) same_ledgers ∙ ruled_first rec e good y ruled g there;
+        second = ap (λ (z : Ledgers). ledger_of z.second) same_ledgers ∙ ruled_second rec e good y ruled g there;
+        lent = λ good. ruled_lent rec e good y ruled g there s changed_by;
+      })
 
 -- of whichever entry is of this part and is read so
-pub offered_so : (rec : Record) (t : ℕ) (w : Whose) (x : Read) (r : Stepped) → lent_good (lent_of rec) ≡ true → (y : Ruling)
-    → Ruled (delays_at (lent_of rec).card (lent_of rec).pace.mr4) (lent_of rec) w x t y → Settled rec t w x y r → OfferedTo rec t w x r
-offered_so rec t w x r good y ruled settled e then whose reads = left_so rec e r good y (rw (whose, reads, then) ruled) (rw (whose, reads, then) settled)
+module _ (rec : Record) (t : ℕ) (w : Whose) (x : Read) (good : lent_good (lent_of rec) ≡ true) (y : Result Ledgers answer.Refusal)
+    (ruled : Ruled (delays_at (lent_of rec).card (lent_of rec).pace.mr4) (lent_of rec) w x t y) where
+  pub offered_out : (z : answer.Refusal) → y ≡ Err z → OfferedTo rec t w x (stepped_in rec (Err z))
+  offered_out z h e then whose reads = left_out rec e good y (rw (whose, reads, then) ruled) z h
+
+  pub offered_in : (g : Ledgers) → y ≡ Ok g → (s : Record) → Changed rec t w (recorded_as x) (move_of x) g (pace_as rec x g) s → OfferedTo rec t w x (stepped_in rec (Ok s))
+  offered_in g h s changed e then whose reads = left_in rec e good y (rw (whose, reads, then) ruled) g h s (rw (whose, reads, then) changed)
 
 -- ---- 13 of the whole record
-pub bad : (rec : Record) (e : Entry) → lent_good (lent_of rec) ≡ false → Left (step_refusal (lent_of rec) e) rec e (record { rec = rec; answer = BadRecord })
-unfolding step_refusal first_of or_else unless refusal_of
-bad rec e g = rw g (left_kept rec e (record { rec = rec; answer = BadRecord }) _ refl refl)
+pub bad : (rec : Record) (e : Entry) → lent_good (lent_of rec) ≡ false → Left (step_refusal (lent_of rec) e) rec e (stepped_in rec (Err BadRecord))
+bad rec e g = left_kept rec e BadRecord (unfold step_refusal first_of or_else unless in rw g)
 
 -- 13 is passed, and the delays of a card that is in range are in 32 bits what they are
 pub prepared : (rec : Record) (d : code.Delays) → lent_good (lent_of rec) ≡ true → clocks_of d ≡ shortened (delays_at (card_of rec.card) rec.pace.mr4) → Prepared rec d

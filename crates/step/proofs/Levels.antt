@@ -13,18 +13,24 @@ use Rattle.rules.specs.Levels.{awake, plain, read_pins}
 use Rattle.rules.proofs.Waking.{awake_reads}
 use Rattle.pins.specs.Places.{bank_on, ap_on}
 use Rattle.pins.proofs.Places.{gathers}
-use Rattle.step.specs.Ready.{Cold, hot_of, hot_with}
+use Rattle.step.specs.declared.kinds.Hot.{Hot}
+use Rattle.step.specs.declared.kinds.Hot.TheVariants.{Nop, Act, Rd, Wr, Pre, Cold}
+use Rattle.step.specs.Ready.{hot_of}
 
-pub wrong_bits_lem : (p : ℕ) → (p / 2097152 ≡ 1 → ⊥) → hot_with 10 ≡ hot_of (decode p)
-unfolding decode hot_of hot_with
+pub wrong_bits_lem : (p : ℕ) → (p / 2097152 ≡ 1 → ⊥) → Cold ≡ hot_of (decode p)
+unfolding decode hot_of
 wrong_bits_lem p n = rw (ne_eqb _ _ n)
 
-pub not_selected : (p : ℕ) → p / 2097152 ≡ 1 → p / 1048576 % 2 ≡ 1 → hot_with 0 ≡ hot_of (decode p)
-unfolding decode on bits hot_of hot_with
+pub not_selected : (p : ℕ) → p / 2097152 ≡ 1 → p / 1048576 % 2 ≡ 1 → Nop ≡ hot_of (decode p)
+unfolding decode on bits hot_of
 not_selected p e n = rw (eq-eqb _ _ e, eq-eqb _ _ n)
 
--- what none of the arms has named
-pub cold_with : (k : ℕ) → (k ≡ 0 → ⊥) → (k ≡ 5 → ⊥) → (k ≡ 6 → ⊥) → (k ≡ 7 → ⊥) → (k ≡ 8 → ⊥) → hot_with k ≡ Cold
+-- by the number of a kind
+unfoldable pub hot_with : ℕ → Hot
+hot_with k = cond (eqb k 0) Nop (cond (eqb k 5) Act (cond (eqb k 6) Rd (cond (eqb k 7) Wr (cond (eqb k 8) Pre Cold))))
+
+-- where none of the arms has named it
+pub cold_with : (k : ℕ) → (k ≡ 0 → ⊥) → (k ≡ 5 → ⊥) → (k ≡ 6 → ⊥) → (k ≡ 7 → ⊥) → (k ≡ 8 → ⊥) → Cold ≡ hot_with k
 unfolding hot_with
 cold_with k a b c d e = rw (ne_eqb k 0 a, ne_eqb k 5 b, ne_eqb k 6 c, ne_eqb k 7 d, ne_eqb k 8 e)
 

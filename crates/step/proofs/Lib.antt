@@ -4,11 +4,13 @@
 pub mod Answers
 pub mod Elevens
 pub mod Split
+pub mod Closed
 pub mod Offered
 pub mod Paced
 pub mod Leaves
 pub mod Arrays
 pub mod Kept
+pub mod Farther
 pub mod Onward
 pub mod ByEntry
 pub mod Alone
@@ -17,7 +19,6 @@ pub mod Within
 pub mod Quiet
 pub mod Standing
 pub mod Cleared
-pub mod Farther
 pub mod Places
 pub mod Begun
 pub mod Went

@@ -3,6 +3,7 @@ use Prim.Native.Nat.{ℕ}
 use mathlib.Core.Path.{◌≡◌, ap, sym, ◌∙◌}
 use mathlib.Core.Bool.{true, cond}
 use mathlib.Core.Option.{Option, none}
+use Rattle.std.specs.Prelude.{Result, Ok, Err}
 use Rattle.rules.specs.Units.{Delays}
 use Rattle.rules.specs.Whose.{Whose, part_of}
 use Rattle.rules.specs.Levels.{Read}
@@ -23,9 +24,10 @@ use Rattle.bank.specs.declared.Share as bank
 use Rattle.bank.specs.Values.{last_of, share_of, share_at, share_in, lent_of, bus_look, theirs_of}
 use Rattle.bank.specs.Both.{ledgers_in, second_of, EnteredBoth}
 use Rattle.bank.proofs.Shares.{part_low, share_in_lem, theirs_heard}
-use Rattle.step.specs.declared.offering.Ruling.{Ruling}
+use Rattle.step.specs.declared.Refusal as answer
 use Rattle.step.specs.Values.{refusal_of}
 use Rattle.step.specs.Parts.{ruled_refusal, read_on, effect_as, ledger_as, ruling_refusal, Ruled}
+use Rattle.step.proofs.Answers.{ok_none, ok_same, err_same}
 use Rattle.step.proofs.Elevens.{told_by}
 use Rattle.step.proofs.Split.{effects_by, ruled_by, ruling_is}
 
@@ -52,7 +54,7 @@ left_new : {A : Type 0} (o : Option Refusal) (old new : A) → o ≡ none → un
 unfolding unless_refused
 left_new o old new n = rw n
 
-module _ (d : Delays) (rec : Record) (w : selects.Whose) (x : Read) (t : ℕ) (p : Paid) (y : Ruling) where
+module _ (d : Delays) (rec : Record) (w : selects.Whose) (x : Read) (t : ℕ) (p : Paid) (y : Result (Unit {0}) answer.Refusal) where
   abbrev whose : Whose
   whose = pins.whose_of w
 
@@ -66,41 +68,45 @@ module _ (d : Delays) (rec : Record) (w : selects.Whose) (x : Read) (t : ℕ) (p
   own_is = share_in_lem rec (part_of whose) (part_low w)
 
   module _ (entered_so : EnteredBoth (ledgers_in rec) rec.pace rec.card whose t (effect_of x own.counter) p)
-      (answer : refusal_of y.answer ≡ ruled_refusal (card_of rec.card) (last_of rec.last) d (share_of own) theirs x t (paid.refusal_of p.answer))
-      (ledgers : y.ledgers ≡ p.ledgers) where
+      (so : refusal_of y ≡ ruled_refusal (card_of rec.card) (last_of rec.last) d (share_of own) theirs x t (paid.refusal_of p.answer)) where
     paid_told : paid.refusal_of p.answer ≡ told_by (lent_of rec) t (effects_by d (lent_of rec) whose x t (share_of own))
     unfolding lent_of share_in share_of ledger_of card_of ledgers_in
     paid_told = entered_so.told
 
-    told_so : has_part (lent_of rec).card (part_of whose) ≡ true → refusal_of y.answer ≡ ruling_refusal d (lent_of rec) whose x t
+    told_so : has_part (lent_of rec).card (part_of whose) ≡ true → refusal_of y ≡ ruling_refusal d (lent_of rec) whose x t
     unfolding lent_of
     told_so i =
-        answer
+        so
         ∙ ap (ruled_refusal (card_of rec.card) (last_of rec.last) d (share_of own) theirs x t) paid_told
         ∙ ap (ruled_by d (lent_of rec) whose x t theirs) (sym own_is)
         ∙ ruling_is d (lent_of rec) whose x t theirs (theirs_heard rec (part_of whose) i)
 
     -- where it is taken the accounts are refused with nothing
-    nothing_told : refusal_of y.answer ≡ none → paid.refusal_of p.answer ≡ none
+    nothing_told : refusal_of y ≡ none → paid.refusal_of p.answer ≡ none
     unfolding ruled_refusal
-    nothing_told n = (or_else_none _ _ (or_else_none _ _ (sym answer ∙ n)).1).1
+    nothing_told n = (or_else_none _ _ (or_else_none _ _ (sym so ∙ n)).1).1
 
     ledger_is : (q : ℕ) → entered (effects_by d (lent_of rec) whose x t (share_of own) q) (beat_of (lent_of rec).card (lent_of rec).pace) ((lent_of rec).share q).ledger t ≡ ledger_as (lent_of rec) whose x t q
     unfolding ledger_as effect_as
     ledger_is q = ap (λ (o : Share). entered (effects_by d (lent_of rec) whose x t o q) (beat_of (lent_of rec).card (lent_of rec).pace) ((lent_of rec).share q).ledger t) (sym own_is)
 
-    first_so : refusal_of y.answer ≡ none → ledger_of y.ledgers.first ≡ ledger_as (lent_of rec) whose x t 0
+    first_so : refusal_of y ≡ none → ledger_of p.ledgers.first ≡ ledger_as (lent_of rec) whose x t 0
     unfolding lent_of share_in share_of ledger_of card_of ledgers_in
-    first_so n =
-        ap (λ (g : Ledgers). ledger_of g.first) ledgers ∙ entered_so.first ∙ left_new _ _ _ (sym entered_so.told ∙ nothing_told n) ∙ ledger_is 0
+    first_so n = entered_so.first ∙ left_new _ _ _ (sym entered_so.told ∙ nothing_told n) ∙ ledger_is 0
 
-    second_so : refusal_of y.answer ≡ none → ledger_of y.ledgers.second ≡ cond (lent_of rec).card.paired (ledger_as (lent_of rec) whose x t 1) ((lent_of rec).share 1).ledger
+    second_so : refusal_of y ≡ none → ledger_of p.ledgers.second ≡ cond (lent_of rec).card.paired (ledger_as (lent_of rec) whose x t 1) ((lent_of rec).share 1).ledger
     unfolding lent_of share_in share_of ledger_of card_of ledgers_in second_of
     second_so n =
-        ap (λ (g : Ledgers). ledger_of g.second) ledgers
-        ∙ entered_so.second
+        entered_so.second
         ∙ left_new _ _ _ (sym entered_so.told ∙ nothing_told n)
         ∙ ap (λ (g : Ledger). cond rec.card.paired g (ledger_of rec.second.ledger)) (ledger_is 1)
 
-    pub ruled_so : Ruled d (lent_of rec) whose x t y
-    ruled_so = record { told = told_so; first = first_so; second = second_so }
+    pub ruled_out : (e : answer.Refusal) → y ≡ Err e → Ruled d (lent_of rec) whose x t (Err e)
+    ruled_out e h = record { told = λ i. err_same y Ledgers e h ∙ told_so i; first = λ g k. absurd cc; second = λ g k. absurd cc }
+
+    pub ruled_in : (u : Unit {0}) → y ≡ Ok u → Ruled d (lent_of rec) whose x t (Ok p.ledgers)
+    ruled_in u h = record {
+      told = λ i. ok_same y u p.ledgers h ∙ told_so i;
+      first = λ g k. let e : p.ledgers ≡ g = cc in rw (← e) (first_so (ok_none y u h));
+      second = λ g k. let e : p.ledgers ≡ g = cc in rw (← e) (second_so (ok_none y u h));
+    }

@@ -4,14 +4,16 @@ use mathlib.Core.Path.{◌≡◌, refl, ap, sym, ◌∙◌}
 use mathlib.Core.Bool.{Bool, true, false, cond}
 use mathlib.Core.List.{List}
 use mathlib.Core.Option.{none}
-use native.Mathlib.Nat.{zero-add, add-zero}
 use native.Mathlib.Omega.{arith}
 use lib.ListN.{length, take, drop, length-drop}
 use lib.Seq.{take_all, drop-drop}
+use Rattle.std.specs.Prelude as rust
+use Rattle.std.specs.Prelude.{Some, None, is_some, unwrap_or}
 use Rattle.rules.specs.Commands.{NOP, is}
 use Rattle.rules.specs.Lent.{command_in, effect_in, step_refusal}
 use Rattle.rules.proofs.Tests.{both_true}
-use Rattle.pins.specs.Fronts.{front_of}
+use Rattle.pins.specs.declared.Front.{Front}
+use Rattle.pins.specs.Fronts.{front_as, front_of}
 use Rattle.pins.proofs.Fronts.{entry_room}
 use Rattle.ledger.specs.Values.{is_none}
 use Rattle.bank.specs.declared.Record.{Record}
@@ -19,27 +21,35 @@ use Rattle.bank.specs.Values.{lent_of}
 use Rattle.bank.specs.After.{record_after}
 use Rattle.step.specs.declared.Ran.{Ran}
 use Rattle.step.specs.Values.{record_with}
-use Rattle.step.specs.Runs.{entry_at, takes, commands_by, refreshes_by, ran, behind, run_of}
+use Rattle.step.specs.Runs.{front_at, entry_at, takes, commands_by, refreshes_by, ran, behind, run_of}
 use Rattle.step.proofs.Answers.{none_so}
 use Rattle.step.proofs.Paced.{pins_pace}
 use Rattle.step.proofs.Kept.{Good, good_with}
+use Rattle.step.proofs.Farther.{behind_twice, from_start}
 
 -- the bytes from a place on, as a part of a slice is read
 pub rest_of : (bs : List ℕ) (at : ℕ) → take (length bs - at) (drop at bs) ≡ drop at bs
 rest_of bs at = take_all (length bs - at) (drop at bs) (rw length-drop (omega arith))
 
 -- ---- the first entry
+pub front_there : (bs : List ℕ) → is_some (front_of bs) ≡ true → front_of bs ≡ Some (front_at bs)
+front_there bs = go (front_of bs)
+  where
+    go : (o : rust.Option Front) → is_some o ≡ true → o ≡ Some (unwrap_or o (front_as 0 0))
+    go (Some f) e = refl
+    go None e = absurd cc
+
 module _ (rec : Record) (bs : List ℕ) where
-  pub taken_if : takes rec bs ≡ true → ((front_of bs).whole ≡ true) × (step_refusal (lent_of rec) (entry_at bs) ≡ none)
+  pub taken_if : takes rec bs ≡ true → (is_some (front_of bs) ≡ true) × (step_refusal (lent_of rec) (entry_at bs) ≡ none)
   unfolding takes
   taken_if e = let p = both_true _ _ e in (p.0, none_so _ p.1)
 
-  pub takes_if : (front_of bs).whole ≡ true → step_refusal (lent_of rec) (entry_at bs) ≡ none → takes rec bs ≡ true
+  pub takes_if : is_some (front_of bs) ≡ true → step_refusal (lent_of rec) (entry_at bs) ≡ none → takes rec bs ≡ true
   unfolding takes is_none
   takes_if w n = rw (w, n)
 
   -- the run behind it
-  abbrev pub follows : ℕ → Ran
+  abbrev pub follows : ℕ → Ran Record
   follows n = behind 10 (commands_by rec (entry_at bs)) (refreshes_by rec (entry_at bs)) (run_of n (record_with rec (entry_at bs)) (drop 10 bs))
 
   pub run_on : takes rec bs ≡ true → (n : ℕ) → run_of (suc n) rec bs ≡ follows n
@@ -52,9 +62,9 @@ module _ (rec : Record) (bs : List ℕ) where
   run_stops e (suc n) = rw e
 
 -- ---- what holds where nothing is taken, and from an entry to the next, holds of a run
-module _ (P : ℕ → Record → List ℕ → Ran → Type 0)
+module _ (P : ℕ → Record → List ℕ → Ran Record → Type 0)
     (stops : (n : ℕ) (rec : Record) (bs : List ℕ) → P n rec bs (ran rec 0 0 0))
-    (goes : (n : ℕ) (rec : Record) (bs : List ℕ) → takes rec bs ≡ true → (r : Ran) → P n (record_with rec (entry_at bs)) (drop 10 bs) r →
+    (goes : (n : ℕ) (rec : Record) (bs : List ℕ) → takes rec bs ≡ true → (r : Ran Record) → P n (record_with rec (entry_at bs)) (drop 10 bs) r →
     P (suc n) rec bs (behind 10 (commands_by rec (entry_at bs)) (refreshes_by rec (entry_at bs)) r)) where
   along : (n : ℕ) (rec : Record) (bs : List ℕ) → P n rec bs (run_of n rec bs)
   unfolding run_of
@@ -66,7 +76,7 @@ module _ (P : ℕ → Record → List ℕ → Ran → Type 0)
       go false e p = rw (run_stops rec bs e (suc n)) (stops (suc n) rec bs)
 
 -- ---- its numbers
-pub record Counted (bs : List ℕ) (r : Ran) : Type 0 where
+pub record Counted (bs : List ℕ) (r : Ran Record) : Type 0 where
   pub within : r.used ≤ length bs
   pub commands : r.commands ≤ r.used
   pub refreshes : r.refreshes ≤ r.used
@@ -91,7 +101,7 @@ pub run_counted : (n : ℕ) (rec : Record) (bs : List ℕ) → Counted bs (run_o
 run_counted = along (λ n rec bs r. Counted bs r)
     (λ n rec bs. record { within = omega arith; commands = omega arith; refreshes = omega arith })
     (λ n rec bs e r p.
-    let room = entry_room bs (taken_if rec bs e).0 in
+    let room = entry_room bs _ (front_there bs (taken_if rec bs e).0) in
     let rest : r.used ≤ length bs - 10 = rw length-drop at p.within in
     record {
       within = omega arith;
@@ -114,7 +124,7 @@ run_good = along (λ n rec bs r. Good rec → Alike rec r.rec)
     record { good = k.good; card = k.card; pace = k.pace ∙ pins_pace rec _ _ })
 
 -- ---- whole entries, at most so many, and none of them refused
-pub record Part (most : ℕ) (rec : Record) (bs : List ℕ) (r : Ran) : Type 0 where
+pub record Part (most : ℕ) (rec : Record) (bs : List ℕ) (r : Ran Record) : Type 0 where
   pub count : ℕ
   pub few : count ≤ most
   pub used : r.used ≡ 10 * count
@@ -123,7 +133,7 @@ pub record Part (most : ℕ) (rec : Record) (bs : List ℕ) (r : Ran) : Type 0 w
 pub part_none : (most : ℕ) (rec : Record) (bs : List ℕ) → Part most rec bs (ran rec 0 0 0)
 part_none most rec bs = record { count = 0; few = omega arith; used = refl; is = unfold run_of in refl }
 
-pub part_on : (most : ℕ) (rec : Record) (bs : List ℕ) → takes rec bs ≡ true → (r : Ran) → Part most (record_with rec (entry_at bs)) (drop 10 bs) r →
+pub part_on : (most : ℕ) (rec : Record) (bs : List ℕ) → takes rec bs ≡ true → (r : Ran Record) → Part most (record_with rec (entry_at bs)) (drop 10 bs) r →
     Part (suc most) rec bs (behind 10 (commands_by rec (entry_at bs)) (refreshes_by rec (entry_at bs)) r)
 part_on most rec bs e r p = record {
   count = suc p.count;
@@ -136,21 +146,8 @@ pub run_part : (n : ℕ) (rec : Record) (bs : List ℕ) → Part n rec bs (run_o
 run_part = along Part part_none part_on
 
 -- ---- a run goes on behind a part of it
-pub behind_twice : (a b c x y z : ℕ) (r : Ran) → behind a b c (behind x y z r) ≡ behind (a + x) (b + y) (c + z) r
-behind_twice a b c x y z r =
-    let u : a + (x + r.used) ≡ a + x + r.used = omega arith in
-    let m : b + (y + r.commands) ≡ b + y + r.commands = omega arith in
-    let f : c + (z + r.refreshes) ≡ c + z + r.refreshes = omega arith in
-    λ i. ran r.rec (u i) (m i) (f i)
-
-pub from_start : (r : Ran) → behind 0 0 0 r ≡ r
-from_start r = λ i. ran r.rec (zero-add r.used i) (zero-add r.commands i) (zero-add r.refreshes i)
-
-pub behind_none : (r : Ran) → behind r.used r.commands r.refreshes (ran r.rec 0 0 0) ≡ r
-behind_none r = λ i. ran r.rec (add-zero r.used i) (add-zero r.commands i) (add-zero r.refreshes i)
-
 -- behind these entries, none of which is refused
-abbrev Goes_on : ℕ → Record → List ℕ → Ran → Type 0
+abbrev Goes_on : ℕ → Record → List ℕ → Ran Record → Type 0
 Goes_on n rec bs r = r.used ≡ 10 * n → (k m : ℕ) → m ≡ n + k → run_of m rec bs ≡ behind r.used r.commands r.refreshes (run_of k r.rec (drop r.used bs))
 
 pub run_then : (n : ℕ) (rec : Record) (bs : List ℕ) → Goes_on n rec bs (run_of n rec bs)

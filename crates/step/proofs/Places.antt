@@ -2,7 +2,6 @@
 use Prim.Native.Nat.{ℕ, ◌≤◌}
 use mathlib.Core.Path.{◌≡◌, refl, ap, ◌∙◌}
 use mathlib.Core.Bool.{Bool, true, false, cond}
-use lib.ListN.{set}
 use Rattle.rules.specs.Commands as rules
 use Rattle.rules.specs.Commands.{NOP, code, bare, carries, kind_of, bank_of, ap_of, is}
 use Rattle.rules.specs.Past.{writes_ma, register_after, mr2_after, bank_at, is_counted}
@@ -19,83 +18,20 @@ use Rattle.pins.specs.Places.{bank_on, ap_on}
 use Rattle.ledger.specs.Values.{ledger_of, level_in, code_of}
 use Rattle.ledger.specs.declared.Ledger.{Ledger}
 use Rattle.pins.specs.Counter.{counter_on}
-use Rattle.bank.specs.After.{modes_after, once_at, once_if, noted_at, noted_if, put_each, each_if, put_noted, noted_each_if, pushed_on, four_after, latest_after, moves_after, bus_after, shuts, opened_after, stamped_after, banks_after, share_after}
+use Rattle.bank.specs.After.{modes_after, once_at, once_if, noted_if, each_if, noted_each_if, four_after, latest_after, moves_after, bus_after, shuts, opened_after, stamped_after, banks_after, share_after}
 use Rattle.bank.specs.declared.Banks.{Banks}
 use Rattle.bank.specs.declared.Bus.{Bus}
 use Rattle.bank.specs.declared.Four.{Four}
 use Rattle.bank.specs.declared.Share.{Share}
 use Rattle.step.specs.declared.single.Single.{Single}
 use Rattle.step.specs.Single.{read_alone, read_by, effect_by, dues_by, ledger_by, single_with}
-use Rattle.step.specs.Ready.{Hot, Nop, Act, Rd, Wr, Pre, Cold, hot_of}
-use Rattle.step.specs.Quick.{hot_count, now_of, EndArgs}
+use Rattle.step.specs.declared.kinds.Hot.{Hot}
+use Rattle.step.specs.declared.kinds.Hot.TheVariants.{Nop, Act, Rd, Wr, Pre, Cold}
+use Rattle.step.specs.Ready.{hot_of}
+use Rattle.step.specs.Quick.{banks_then, bus_then, four_then, hot_count, now_of, EndArgs}
 use Rattle.step.proofs.Paced.{single_pace}
 use Rattle.step.proofs.Levels.{Names, named_so, awake_hot}
 use Rattle.step.proofs.Standing.{Stands, moved_back}
-
--- the parts after an entry of this kind to bank b
-abbrev pub banks_then : Hot → (b : ℕ) → (ap : Bool) → (t : ℕ) → Modes → Banks → Banks
-banks_then Nop b ap t m x = x
-banks_then Act b ap t m x = record {
-  opened = set x.opened b true;
-  refpb = x.refpb;
-  pre = x.pre;
-  act = put_each b t x.act;
-  rd = x.rd;
-  rda = x.rda;
-  wr = x.wr;
-  wra = x.wra;
-}
-banks_then Rd b true t m x = record {
-  opened = set x.opened b false;
-  refpb = x.refpb;
-  pre = x.pre;
-  act = x.act;
-  rd = put_each b t x.rd;
-  rda = put_each b t x.rda;
-  wr = x.wr;
-  wra = x.wra;
-}
-banks_then Rd b false t m x = record {
-  opened = x.opened;
-  refpb = x.refpb;
-  pre = x.pre;
-  act = x.act;
-  rd = put_each b t x.rd;
-  rda = x.rda;
-  wr = x.wr;
-  wra = x.wra;
-}
-banks_then Wr b true t m x = record {
-  opened = set x.opened b false;
-  refpb = x.refpb;
-  pre = x.pre;
-  act = x.act;
-  rd = x.rd;
-  rda = x.rda;
-  wr = put_noted b t m x.wr;
-  wra = put_noted b t m x.wra;
-}
-banks_then Wr b false t m x = record {
-  opened = x.opened;
-  refpb = x.refpb;
-  pre = x.pre;
-  act = x.act;
-  rd = x.rd;
-  rda = x.rda;
-  wr = put_noted b t m x.wr;
-  wra = x.wra;
-}
-banks_then Pre b ap t m x = record {
-  opened = set x.opened b false;
-  refpb = x.refpb;
-  pre = put_each b t x.pre;
-  act = x.act;
-  rd = x.rd;
-  rda = x.rda;
-  wr = x.wr;
-  wra = x.wra;
-}
-banks_then Cold b ap t m x = x
 
 pub refpb_kept : (h : Hot) (b : ℕ) (ap : Bool) (t : ℕ) (m : Modes) (x : Banks) → (banks_then h b ap t m x).refpb ≡ x.refpb
 refpb_kept Nop b ap t m x = refl
@@ -106,22 +42,6 @@ refpb_kept Wr b true t m x = refl
 refpb_kept Wr b false t m x = refl
 refpb_kept Pre b ap t m x = refl
 refpb_kept Cold b ap t m x = refl
-
-abbrev pub bus_then : Hot → (t : ℕ) → Modes → Bus → Bus
-bus_then Nop t m x = x
-bus_then Act t m x = x
-bus_then Rd t m x = record { rd = once_at t; wr = x.wr; turn = noted_at t m }
-bus_then Wr t m x = record { rd = x.rd; wr = noted_at t m; turn = x.turn }
-bus_then Pre t m x = x
-bus_then Cold t m x = x
-
-abbrev pub four_then : Hot → (t : ℕ) → Four → Four
-four_then Nop t x = x
-four_then Act t x = pushed_on t x
-four_then Rd t x = x
-four_then Wr t x = x
-four_then Pre t x = x
-four_then Cold t x = x
 
 module _ (rec : Single) (banks : Banks) (bus : Bus) (four : Four) (u t p : ℕ) where
   abbrev beat : Beat

@@ -11,6 +11,7 @@ use lib.ListN.{drop}
 use contract.Lifetimes.{Lfts}
 use denote.Triple.Clauses.{AtExit, at_exit}
 use denote.Triple.Entry.{Args}
+use Rattle.std.specs.Prelude.{is_some}
 use Rattle.rules.specs.Ranges.{card_good}
 use Rattle.rules.specs.Entries.{Body, pins, mr4, Entry, entry, sensing, past_of}
 use Rattle.rules.specs.Checks.{Refusal, entry_refusal}
@@ -42,11 +43,11 @@ run f r [] = some r
 run f r (e ∷ es) = elim (refusal_of (f r e).answer) [ none ↦ run f (f r e).rec es | some x ↦ none ]
 
 -- the entries at the start of some bytes, as `run_of` takes them, each by a step
-unfoldable pub steps : (Record → Entry → Stepped) → ℕ → Record → List ℕ → Ran
+unfoldable pub steps : (Record → Entry → Stepped) → ℕ → Record → List ℕ → Ran Record
 steps f zero r bs = ran r 0 0 0
 steps f (suc n) r bs =
     let e = entry_at bs in
-    cond ((front_of bs).whole && is_none (refusal_of (f r e).answer)) (behind 10 (commands_by r e) (refreshes_by r e) (steps f n (f r e).rec (drop 10 bs))) (ran r 0 0 0)
+    cond (is_some (front_of bs) && is_none (refusal_of (f r e).answer)) (behind 10 (commands_by r e) (refreshes_by r e) (steps f n (f r e).rec (drop 10 bs))) (ran r 0 0 0)
 
 pub record Keeps (f : Record → Entry → Stepped) : Type 0 where
   pub at_pins : (r : Record) (t p : ℕ) →
@@ -106,9 +107,9 @@ module _ (f : Record → Entry → Stepped) (kept : Keeps f) where
       go : (o : Option Refusal) → step_refusal (lent_of r) (entry_at bs) ≡ o → run_of n (f r (entry_at bs)).rec (drop 10 bs) ≡ steps f n (f r (entry_at bs)).rec (drop 10 bs) →
           run_of (suc n) r bs ≡ steps f (suc n) r bs
       go none e ih = unfold run_of steps takes is_none in rw ((keeps r (entry_at bs)).told, e, ← ih, left_record (keeps r (entry_at bs)) e)
-      go (some x) e ih = unfold run_of steps takes is_none in rw ((keeps r (entry_at bs)).told, e) (neither (front_of bs).whole _ _ _)
+      go (some x) e ih = unfold run_of steps takes is_none in rw ((keeps r (entry_at bs)).told, e) (neither (is_some (front_of bs)) _ _ _)
 
-  pub by_steps : (κs : Lfts (public.signature).lifetimes) (a : Args public.signature κs) (r : Ran) (x : AtExit public.ended κs) → (run_claims κs a r x).claim →
+  pub by_steps : (κs : Lfts (public.signature).lifetimes) (a : Args public.signature κs) (r : Ran Record) (x : AtExit public.ended κs) → (run_claims κs a r x).claim →
       r ≡ steps f a.1.1.0 a.0 a.1.0.now
   by_steps κs a r x e = e ∙ run_is a.1.1.0 a.0 a.1.0.now
 

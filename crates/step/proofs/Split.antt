@@ -4,6 +4,7 @@ use mathlib.Core.Path.{◌≡◌, refl, ap, sym, ◌∙◌}
 use mathlib.Core.Bool.{Bool, true}
 use mathlib.Core.List.{List, [], ◌∷◌, ◌++◌}
 use mathlib.Core.Option.{Option, none, some}
+use Rattle.std.specs.Prelude.{Err}
 use Rattle.rules.specs.Lists.{all}
 use Rattle.rules.specs.Card.{Card}
 use Rattle.rules.specs.Units.{Delays}
@@ -22,8 +23,12 @@ use Rattle.rules.proofs.Bus.{SameBus, bus_broken}
 use Rattle.rules.proofs.Decided.{or_none}
 use Rattle.rules.proofs.Filtered.{IsPart, all_parts, judging_part}
 use Rattle.rules.proofs.Sound.{ledger_good_lem}
+use Rattle.pins.specs.declared.Undecoded.{Undecoded}
+use Rattle.pins.specs.declared.Undecoded.TheVariants.{WrongBits, Reserved}
+use Rattle.pins.specs.Values.{decoded_of}
 use Rattle.bank.specs.Both.{effect_for}
-use Rattle.step.specs.Parts.{opening_refusal, command_refusal, reading_refusal, judged_refusal, ruled_refusal, effect_as, ledger_as, ruling_refusal}
+use Rattle.step.specs.Values.{refused_as}
+use Rattle.step.specs.Parts.{undecoded_as, opening_refusal, command_refusal, reading_refusal, judged_refusal, ruled_refusal, effect_as, ledger_as, ruling_refusal}
 use Rattle.step.proofs.Elevens.{told_by, opening_is, here_is}
 
 module _ {A : Type 0} where
@@ -55,6 +60,11 @@ module _ (card : Card) (is_open : ℕ → Bool) (n : ℕ) where
   pub command_reads : (c : Command) → command_refusal card is_open n c ≡ reading_refusal card is_open n (plain (good c))
   unfolding command_refusal reading_refusal first_of or_else unless is_wrong is_clash is_reserved is_barred code_good judged_as command_of
   command_reads c = refl
+
+  pub undecoded_reads : (u : Undecoded) → some (refused_as (undecoded_as u)) ≡ reading_refusal card is_open n (plain (decoded_of (Err u)))
+  unfolding undecoded_as decoded_of reading_refusal first_of or_else unless is_wrong is_clash is_reserved
+  undecoded_reads WrongBits = refl
+  undecoded_reads Reserved = refl
 
   pub move_reads : (m : Move) → command_refusal card is_open n (judged_as (moved m)) ≡ reading_refusal card is_open n (moved m)
   unfolding command_refusal reading_refusal first_of or_else unless is_wrong is_clash is_reserved is_barred code_good

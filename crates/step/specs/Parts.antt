@@ -1,5 +1,6 @@
 -- The parts of a step, each with its own refusals.
-use Rattle.std.specs.Prelude.{ℕ, ◌+◌, ◌-◌, ◌/◌, ◌<◌, ◌^◌, ◌≡◌, Bool, true, cond, not, ◌&&◌, List, [], ◌∷◌, map, leb, eqb, drop}
+use Rattle.std.specs.Prelude.{ℕ, ◌+◌, ◌-◌, ◌/◌, ◌<◌, ◌^◌, ◌≡◌, Bool, true, cond, not, ◌&&◌, List, [], ◌∷◌, map, leb, eqb, drop, Result, Ok, Err, Some, unwrap_or}
+use Rattle.std.specs.Prelude as rust
 use Rattle.std.proofs.Math.Option.{Option, none, some}
 use Rattle.rules.specs.Lists.{all}
 use Rattle.rules.specs.Card.{Card}
@@ -11,22 +12,25 @@ use Rattle.rules.specs.Levels.{Read}
 use Rattle.rules.specs.States.{state_good}
 use Rattle.rules.specs.Folds.{or_else, first_of, first_broken}
 use Rattle.rules.specs.Delays.{Answers, look_both, delay_rules}
-use Rattle.rules.specs.Entries.{Body, Entry, read_body, whose_of, recorded_as, move_of, mr4_of, judged_as}
+use Rattle.rules.specs.Entries.{Body, Entry, read_body, whose_of, move_of, mr4_of, judged_as}
 use Rattle.rules.specs.Checks.{Refusal, unless, named, is_wrong, is_clash, is_reserved, is_barred, code_good, value_good}
 use Rattle.rules.specs.Lent.{Ledger, Share, Lent, beat_of, number_of, look_in, answers_in, above_last, not_behind, has_part, read_in, Effect, effect_of, entered, failing_of, failings_to, pace_by, ledger_good, lent_good, step_refusal}
 use Rattle.card.specs.Values.{card_of, clocks_of}
 use Rattle.card.specs.declared.Delays as code
 use Rattle.ledger.specs.Values.{ledger_of, pace_of, pace_in}
 use Rattle.ledger.specs.declared.Pace.{Pace}
+use Rattle.pins.specs.declared.Undecoded.{Undecoded}
+use Rattle.pins.specs.declared.Undecoded.TheVariants.{WrongBits, Reserved}
+use Rattle.bank.specs.declared.Ledgers.{Ledgers}
 use Rattle.bank.specs.declared.Record.{Record}
 use Rattle.bank.specs.Values.{lent_of}
-use Rattle.bank.specs.After.{Changed}
 use Rattle.bank.specs.Both.{effect_for}
 use Rattle.step.specs.declared.Ran.{Ran}
 use Rattle.step.specs.declared.Stepped.{Stepped}
-use Rattle.step.specs.declared.offering.Ruling.{Ruling}
-use Rattle.step.specs.Values.{refusal_of, Left}
-use Rattle.step.specs.Runs.{behind, run_of}
+use Rattle.step.specs.declared.Refusal as answer
+use Rattle.step.specs.declared.Refusal.TheVariants as answers
+use Rattle.step.specs.Values.{refusal_of, stepped_as, Left}
+use Rattle.step.specs.Runs.{ran, behind, run_of}
 
 -- a record that 13 lets pass, and the delays of its card at its temperature
 pub record Prepared (rec : Record) (delays : code.Delays) : Type 0 where
@@ -49,6 +53,11 @@ opening_of rises t none = unless rises 5
 opening_of rises t (some x) = cond (eqb x.number 11) (or_else (unless rises 5) (cond (leb t x.cycle) none (some x))) (some x)
 
 -- ---- 6 to 10, 16, 24 and 26
+-- pins that are no command
+unfoldable pub undecoded_as : Undecoded → answer.Refusal
+undecoded_as WrongBits = answers.WrongBits
+undecoded_as Reserved = answers.Reserved
+
 unfoldable pub command_refusal : Card → (ℕ → Bool) → (counter : ℕ) → Command → Option Refusal
 command_refusal card is_open n c = first_of (unless (state_good is_open n c) 8 ∷ unless (value_good card c) 9 ∷ [])
 
@@ -91,21 +100,20 @@ ruling_refusal delays l w r t =
     (or_else (judged_refusal l.card delays (l.share (part_of w)) (answers_in l (other (part_of w))) r t)
     (named 11 (first_of (map (λ p. failing_of (beat_of l.card l.pace) (ledger_as l w r t p)) (parts l.card)))))
 
--- `told` speaks of a part that the trace has
-pub record Ruled (delays : Delays) (l : Lent) (w : Whose) (x : Read) (t : ℕ) (r : Ruling) : Type 0 where
-  pub told : has_part l.card (part_of w) ≡ true → refusal_of r.answer ≡ ruling_refusal delays l w x t
-  pub first : refusal_of r.answer ≡ none → ledger_of r.ledgers.first ≡ ledger_as l w x t 0
-  pub second : refusal_of r.answer ≡ none → ledger_of r.ledgers.second ≡ cond l.card.paired (ledger_as l w x t 1) (l.share 1).ledger
+-- `told` speaks of a part that the trace has; the ledgers of an entry that is taken are each part's at the stamp
+pub record Ruled (delays : Delays) (l : Lent) (w : Whose) (x : Read) (t : ℕ) (y : Result Ledgers answer.Refusal) : Type 0 where
+  pub told : has_part l.card (part_of w) ≡ true → refusal_of y ≡ ruling_refusal delays l w x t
+  pub first : (g : Ledgers) → y ≡ Ok g → ledger_of g.first ≡ ledger_as l w x t 0
+  pub second : (g : Ledgers) → y ≡ Ok g → ledger_of g.second ≡ cond l.card.paired (ledger_as l w x t 1) (l.share 1).ledger
 
 -- the pace then, as it is stored, by the ledgers at the stamp
-abbrev pub pace_as : Record → Read → Ruling → Pace
-pace_as rec x y = pace_in (pace_by (card_of rec.card) (number_of (ledger_of y.ledgers.first)) (mr4_of x) (pace_of rec.pace))
+abbrev pub pace_as : Record → Read → Ledgers → Pace
+pace_as rec x g = pace_in (pace_by (card_of rec.card) (number_of (ledger_of g.first)) (mr4_of x) (pace_of rec.pace))
 
 -- the record is changed where the entry is taken, and only there
-pub record Settled (rec : Record) (stamp : ℕ) (w : Whose) (x : Read) (y : Ruling) (r : Stepped) : Type 0 where
-  pub told : refusal_of r.answer ≡ refusal_of y.answer
-  pub kept : (z : Refusal) → refusal_of y.answer ≡ some z → r.rec ≡ rec
-  pub changed : refusal_of y.answer ≡ none → Changed rec stamp w (recorded_as x) (move_of x) y.ledgers (pace_as rec x y) r.rec
+unfoldable pub stepped_in : Record → Result Record answer.Refusal → Stepped
+stepped_in rec (Ok next) = stepped_as next (Ok tt)
+stepped_in rec (Err e) = stepped_as rec (Err e)
 
 -- of every entry that is of this part and is read so
 abbrev pub OfferedTo : Record → (stamp : ℕ) → Whose → Read → Stepped → Type 0
@@ -118,14 +126,15 @@ pub record Fits (u m f u' m' f' : ℕ) : Type 0 where
   pub commands : m + m' < 2 ^ 64
   pub refreshes : f + f' < 2 ^ 64
 
-abbrev pub Fitting : (first then : Ran) → Type 0
+abbrev pub Fitting : {R : Type 0} → (first then : Ran R) → Type 0
 Fitting a b = Fits a.used a.commands a.refreshes b.used b.commands b.refreshes
 
--- one entry, if it is there and is taken, and a sound record again
-pub record OneOn (rec : Record) (delays : code.Delays) (bs : List ℕ) (r : Ran) : Type 0 where
-  pub is : r ≡ run_of 1 rec bs
-  pub sound : Prepared r.rec delays
+-- one entry, if it is there and is taken, and a sound record again; none where a run takes none
+pub record OneOn (rec : Record) (delays : code.Delays) (bs : List ℕ) (o : rust.Option (Ran Record)) : Type 0 where
+  pub is : unwrap_or o (ran rec 0 0 0) ≡ run_of 1 rec bs
+  pub sound : Prepared (unwrap_or o (ran rec 0 0 0)).rec delays
+  pub ten : (r : Ran Record) → o ≡ Some r → r.used ≡ 10
 
 -- the whole run, where so much of it was run
-unfoldable pub onwards : List ℕ → (most : ℕ) → Ran → Ran
+unfoldable pub onwards : List ℕ → (most : ℕ) → Ran Record → Ran Record
 onwards bs most r = behind r.used r.commands r.refreshes (run_of (most - r.used / 10) r.rec (drop r.used bs))

@@ -11,17 +11,17 @@ use Rattle.pins.specs.Values.{level_of}
 use Rattle.pins.specs.Places.{bank_on}
 use Rattle.ledger.specs.Values.{deadline_of}
 use Rattle.bank.specs.Values.{no_modes}
+use Rattle.bank.specs.declared.Banks.{Banks}
 use Rattle.bank.specs.declared.Bus.{Bus}
 use Rattle.bank.specs.declared.Latest.{Latest}
 use Rattle.bank.specs.declared.Moves.{Moves}
 use Rattle.step.specs.declared.single.Single.{Single}
+use Rattle.step.specs.declared.kinds.Hot.{Hot}
+use Rattle.step.specs.declared.kinds.Hot.TheVariants.{Nop, Act, Rd, Wr, Pre, Cold}
 use Rattle.step.specs.declared.cycles.Lane.{Lane}
 use Rattle.step.specs.declared.waits.Waits.{Waits}
 
--- the kinds that a quick run takes; any other, and pins that are no command, are cold
-pub data Hot : Type 0 where
-  Nop Act Rd Wr Pre Cold : Hot
-
+-- the kind that the quick run takes, or that it takes none
 unfoldable pub hot_of : Decoded → Hot
 hot_of (good rules.nop) = Nop
 hot_of (good (rules.mrw ma op)) = Cold
@@ -36,13 +36,9 @@ hot_of (good rules.prea) = Cold
 hot_of wrong_bits = Cold
 hot_of reserved = Cold
 
--- by the number of a kind
-unfoldable pub hot_with : ℕ → Hot
-hot_with k = cond (eqb k 0) Nop (cond (eqb k 5) Act (cond (eqb k 6) Rd (cond (eqb k 7) Wr (cond (eqb k 8) Pre Cold))))
-
 -- ---- what a quick run does not change
 abbrev pub max4 : ℕ → ℕ → ℕ → ℕ → ℕ
-max4 a b c d = max (max a b) (max c d)
+max4 a b c d = max (max (max a b) c) d
 
 -- the greatest of eight stamps
 abbrev pub top_of : List ℕ → ℕ
@@ -68,23 +64,27 @@ waits_of d rec = record {
   wl = wl_of rec.share.modes.mr2;
   whole = whole_of d rec;
   idle = max (whole_of d rec) (max (rec.share.latest.prea.at + d.trpab) (top_of rec.share.banks.refpb.at + d.trrd));
+  delays = d;
 }
 
 -- ---- the delay rules
 -- what the record holds for a bank
-abbrev pub lane_of : Single → ℕ → Lane
-lane_of rec b = record {
-  opened = get_or rec.share.banks.opened b false;
-  refpb = get_or rec.share.banks.refpb.at b 0;
-  pre = get_or rec.share.banks.pre.at b 0;
-  act = get_or rec.share.banks.act.at b 0;
-  rd = get_or rec.share.banks.rd.at b 0;
-  rda = get_or rec.share.banks.rda.at b 0;
-  wr = get_or rec.share.banks.wr.at b 0;
-  wr_modes = get_or rec.share.banks.wr.modes b no_modes;
-  wra = get_or rec.share.banks.wra.at b 0;
-  wra_modes = get_or rec.share.banks.wra.modes b no_modes;
+abbrev pub lane_in : Banks → ℕ → Lane
+lane_in x b = record {
+  opened = get_or x.opened b false;
+  refpb = get_or x.refpb.at b 0;
+  pre = get_or x.pre.at b 0;
+  act = get_or x.act.at b 0;
+  rd = get_or x.rd.at b 0;
+  rda = get_or x.rda.at b 0;
+  wr = get_or x.wr.at b 0;
+  wr_modes = get_or x.wr.modes b no_modes;
+  wra = get_or x.wra.at b 0;
+  wra_modes = get_or x.wra.modes b no_modes;
 }
+
+abbrev pub lane_of : Single → ℕ → Lane
+lane_of rec b = lane_in rec.share.banks b
 
 -- enough for every MR2, where another one than the present was noted
 abbrev pub slack : Waits → ℕ → ℕ

@@ -1,5 +1,6 @@
 -- A record of one part, as a run goes over it: what an entry is to it and leaves, whatever the share that is not looked at holds.
-use Rattle.std.specs.Prelude.{ℕ, ◌+◌, ◌*◌, ◌≤◌, ◌≡◌, Bool, true, false, ◌&&◌, List, ◌∷◌, leb, length}
+use Rattle.std.specs.Prelude.{ℕ, ◌+◌, ◌*◌, ◌≤◌, ◌≡◌, Bool, true, false, ◌&&◌, List, ◌∷◌, leb, length, Some, unwrap_or}
+use Rattle.std.specs.Prelude as rust
 use Rattle.std.proofs.Math.Option.{Option, none}
 use Rattle.rules.specs.Heat.{delays_at}
 use Rattle.rules.specs.Ranges.{card_good}
@@ -21,9 +22,7 @@ use Rattle.bank.specs.Values.{last_of, share_of}
 use Rattle.bank.specs.After.{once_at, share_after}
 use Rattle.step.specs.declared.Ran.{Ran}
 use Rattle.step.specs.declared.single.Single.{Single}
-use Rattle.step.specs.declared.single.Gone.{Gone}
 use Rattle.step.specs.Runs.{ran, run_of}
-use Rattle.step.specs.Parts.{Fits, onwards}
 
 -- ---- of a record, and back
 unfoldable pub single_of : Record → Single
@@ -32,13 +31,7 @@ single_of rec = record { card = rec.card; last = rec.last; pace = rec.pace; shar
 abbrev pub whole : Share → Single → Record
 whole x s = record { card = s.card; last = s.last; pace = s.pace; first = s.share; second = x }
 
-abbrev pub gone : Single → (used commands refreshes : ℕ) → Gone
-gone s used commands refreshes = record { rec = s; used = used; commands = commands; refreshes = refreshes }
-
-abbrev pub gone_behind : (used commands refreshes : ℕ) → Gone → Gone
-gone_behind used commands refreshes g = gone g.rec (used + g.used) (commands + g.commands) (refreshes + g.refreshes)
-
-unfoldable pub ran_with : Share → Gone → Ran
+unfoldable pub ran_with : Share → Ran Single → Ran Record
 ran_with x g = ran (whole x g.rec) g.used g.commands g.refreshes
 
 -- ---- an entry
@@ -97,14 +90,16 @@ pub record Ready (s : Single) (delays : Delays) : Type 0 where
   pub clocks : clocks_of delays ≡ delays_at (card_of s.card) s.pace.mr4
 
 -- as the run goes of any record that holds this part
-abbrev pub RunsTo : (most : ℕ) → Single → List ℕ → Gone → Type 0
+abbrev pub RunsTo : (most : ℕ) → Single → List ℕ → Ran Single → Type 0
 RunsTo most s bs g = (x : Share) → ran_with x g ≡ run_of most (whole x s) bs
 
-abbrev pub FitGone : (first then : Gone) → Type 0
-FitGone a b = Fits a.used a.commands a.refreshes b.used b.commands b.refreshes
+-- one entry, if it is there and is taken; none where a run takes none
+pub record TakesOne (s : Single) (bs : List ℕ) (o : rust.Option (Ran Single)) : Type 0 where
+  pub is : RunsTo 1 s bs (unwrap_or o (ran s 0 0 0))
+  pub ten : (g : Ran Single) → o ≡ Some g → g.used ≡ 10
 
 -- whole entries, at most so many and within the bytes, that left a sound record
-pub record SoFar (delays : Delays) (bs : List ℕ) (most : ℕ) (g : Gone) : Type 0 where
+pub record SoFar (delays : Delays) (bs : List ℕ) (most : ℕ) (g : Ran Single) : Type 0 where
   pub sound : Ready g.rec delays
   pub entries : ℕ
   pub used : g.used ≡ 10 * entries
@@ -112,10 +107,3 @@ pub record SoFar (delays : Delays) (bs : List ℕ) (most : ℕ) (g : Gone) : Typ
   pub within : g.used ≤ length bs
   pub commands : g.commands ≤ g.used
   pub refreshes : g.refreshes ≤ g.used
-
--- one turn: the whole run stays what it is, and where nothing was taken it ends there
-pub record Turned (delays : Delays) (bs : List ℕ) (most : ℕ) (before g : Gone) : Type 0 where
-  pub so_far : SoFar delays bs most g
-  pub same : (x : Share) → onwards bs most (ran_with x g) ≡ onwards bs most (ran_with x before)
-  pub not_less : before.used ≤ g.used
-  pub ends : g.used ≡ before.used → (x : Share) → onwards bs most (ran_with x g) ≡ ran_with x g

@@ -1,11 +1,12 @@
 // A cycle from which on a command breaks no delay rule: only the rules that can speak for it are asked, each as if its entry had been there. An
 // entry that comes earlier may be good all the same.
-ghost use Rattle.std.specs.Prelude.{◌≡◌, not, ◌&&◌, ◌+◌, ◌-◌, ◌<◌, max, leb};
-ghost use Rattle.step.specs.Ready.{max4, slack, wrote, rd_cycle, wr_cycle, pre_cycle, idle_cycle, act_cycle, hot_with, ready_by};
+ghost use Rattle.std.specs.Prelude.{◌≡◌, ◌+◌, ◌-◌, ◌<◌};
+ghost use Rattle.step.specs.Ready.{lane_in, slack, wrote, rd_cycle, wr_cycle, pre_cycle, idle_cycle, act_cycle, ready_by};
 
-use crate::waits::{Waits, after, later, top};
-use bank::Bus;
-use card::{Delays, Modes, greater};
+use crate::kinds::Hot;
+use crate::waits::{Waits, after, top};
+use bank::{Banks, Bus};
+use card::Modes;
 
 // What the record holds for the bank that a command names.
 #[derive(Clone, Copy)]
@@ -22,83 +23,24 @@ pub struct Lane {
     pub wra_modes: Modes,
 }
 
-fn latest4(a: u64, b: u64, c: u64, d: u64) -> u64
-    ensures { result ≡ max4 a b c d }
-{
-    greater(greater(a, b), greater(c, d))
-}
-
-// Enough for every MR2, where another one than the present was noted.
-fn slack_of(w: Waits, noted: u8) -> u64
-    ensures { (result ≡ slack w noted) × (result < 33) }
-{
-    if noted == w.mr2 { 0 } else { 32 }
-}
-
-// A delay after WR, with WL and the burst.
-fn after_wr(at: u32, delay: u32, w: Waits, noted: u8) -> u64
-    ensures { result ≡ at + delay + wrote w noted }
-{
-    after(at, delay) + (w.wl as u64 + 5 + slack_of(w, noted))
-}
-
-fn less(a: u64, b: u64) -> u64
-    ensures { result ≡ a - b }
-{
-    if b < a { a - b } else { 0 }
-}
-
-// Rule 13.
-fn after_turn(bus: Bus, w: Waits, delay: u32) -> u64
-    ensures { result ≡ bus.turn.at + (w.rl + delay + 5 - w.wl) + slack w bus.turn.modes.mr2 }
-{
-    let turned = less(w.rl as u64 + delay as u64 + 5, w.wl as u64);
-    bus.turn.at as u64 + turned + slack_of(w, bus.turn.modes.mr2)
-}
-
-fn least(trtp: u32) -> u32
-    ensures { result ≡ max 4 trtp }
-{
-    later(4, trtp)
-}
-
-// Rules 7, 12 and 14.
-fn rd_cycle(l: Lane, w: Waits, d: Delays, bus: Bus) -> u64
-    ensures { result ≡ rd_cycle l w d bus }
-{
-    latest4(
-        w.whole,
-        after(l.act, d.trcd),
-        after(bus.rd.at, 4),
-        after_wr(bus.wr.at, d.twtr, w, bus.wr.modes.mr2),
-    )
-}
-
-// Rules 7, 12 and 13.
-fn wr_cycle(l: Lane, w: Waits, d: Delays, bus: Bus) -> u64
-    ensures { result ≡ wr_cycle l w d bus }
-{
-    latest4(
-        w.whole,
-        after(l.act, d.trcd),
-        after(bus.wr.at, 4),
-        after_turn(bus, w, d.tdqsck),
-    )
-}
-
-// Rules 4, 8, 15 and 17.
-fn pre_cycle(l: Lane, w: Waits, d: Delays) -> u64
-    ensures { result ≡ pre_cycle l w d }
-{
-    greater(
-        w.whole,
-        latest4(
-            after(l.refpb, d.trfcpb),
-            after(l.act, d.tras),
-            after(l.rd, least(d.trtp)),
-            after_wr(l.wr, d.twr, w, l.wr_modes.mr2),
-        ),
-    )
+impl Lane {
+    pub fn of(banks: &Banks, bank: usize) -> Lane
+        requires { bank < 8 }
+        ensures { result ≡ lane_in banks.now bank }
+    {
+        Lane {
+            opened: banks.opened[bank],
+            refpb: banks.refpb.at[bank],
+            pre: banks.pre.at[bank],
+            act: banks.act.at[bank],
+            rd: banks.rd.at[bank],
+            rda: banks.rda.at[bank],
+            wr: banks.wr.at[bank],
+            wr_modes: banks.wr.modes[bank],
+            wra: banks.wra.at[bank],
+            wra_modes: banks.wra.modes[bank],
+        }
+    }
 }
 
 // Rules 16 and 18 have two delays.
@@ -106,90 +48,109 @@ fn after_two(at: u32, one: u32, two: u32, more: u64) -> u64
     requires { more < 1000 }
     ensures { result ≡ at + (one + two) + more }
 {
-    at as u64 + (one as u64 + two as u64) + more
+    u64::from(at) + (u64::from(one) + u64::from(two)) + more
 }
 
-// Rules 4, 5, 9, 16 and 18.
-fn idle_cycle(l: Lane, w: Waits, d: Delays) -> u64
-    ensures { result ≡ idle_cycle l w d }
-{
-    let lag = w.wl as u64 + 5 + slack_of(w, l.wra_modes.mr2);
-    let nwr = card::nwr_of(l.wra_modes, d.twr);
-    greater(
-        latest4(
-            after(l.refpb, d.trfcpb),
-            after(l.pre, d.trppb),
-            after(l.act, d.trc),
-            after_two(l.rda, least(d.trtp), d.trppb, 0),
-        ),
-        after_two(l.wra, nwr, d.trppb, lag),
-    )
-}
-
-// And 10, 11.
-fn act_cycle(l: Lane, w: Waits, d: Delays, acts: [u32; 8], fourth: u32) -> u64
-    ensures { result ≡ act_cycle l w d acts fourth }
-{
-    latest4(
-        w.idle,
-        idle_cycle(l, w, d),
-        after(top(acts), d.trrd),
-        after(fourth, d.tfaw),
-    )
-}
-
-fn act_ready(l: Lane, w: Waits, d: Delays, acts: [u32; 8], fourth: u32, stamp: u32) -> bool
-    ensures { result ≡ (not l.opened && leb (act_cycle l w d acts fourth) stamp) }
-{
-    if l.opened {
-        return false;
+impl Waits {
+    // Enough for every MR2, where another one than the present was noted.
+    fn slack(self, noted: u8) -> u64
+        ensures { (result ≡ slack self noted) × (result < 33) }
+    {
+        if noted == self.mr2 { 0 } else { 32 }
     }
-    act_cycle(l, w, d, acts, fourth) <= stamp as u64
-}
 
-fn rd_ready(l: Lane, w: Waits, d: Delays, bus: Bus, stamp: u32) -> bool
-    ensures { result ≡ (l.opened && leb (rd_cycle l w d bus) stamp) }
-{
-    if !l.opened {
-        return false;
+    // A delay after WR, with WL and the burst.
+    fn after_wr(self, at: u32, delay: u32, noted: u8) -> u64
+        ensures { result ≡ at + delay + wrote self noted }
+    {
+        after(at, delay) + (u64::from(self.wl) + 5 + self.slack(noted))
     }
-    rd_cycle(l, w, d, bus) <= stamp as u64
-}
 
-fn wr_ready(l: Lane, w: Waits, d: Delays, bus: Bus, stamp: u32) -> bool
-    ensures { result ≡ (l.opened && leb (wr_cycle l w d bus) stamp) }
-{
-    if !l.opened {
-        return false;
+    // Rule 13.
+    fn after_turn(self, bus: Bus) -> u64
+        ensures { result ≡ bus.turn.at + (self.rl + self.delays.tdqsck + 5 - self.wl) + slack self bus.turn.modes.mr2 }
+    {
+        let behind = u64::from(self.rl) + u64::from(self.delays.tdqsck) + 5;
+        let turned = behind.saturating_sub(u64::from(self.wl));
+        u64::from(bus.turn.at) + turned + self.slack(bus.turn.modes.mr2)
     }
-    wr_cycle(l, w, d, bus) <= stamp as u64
-}
 
-fn pre_ready(l: Lane, w: Waits, d: Delays, stamp: u32) -> bool
-    ensures { result ≡ leb (pre_cycle l w d) stamp }
-{
-    pre_cycle(l, w, d) <= stamp as u64
-}
+    // Rules 7, 12 and 14.
+    fn rd_cycle(self, lane: Lane, bus: Bus) -> u64
+        ensures { result ≡ rd_cycle lane self self.delays bus }
+    {
+        self.whole
+            .max(after(lane.act, self.delays.trcd))
+            .max(after(bus.rd.at, 4))
+            .max(self.after_wr(bus.wr.at, self.delays.twtr, bus.wr.modes.mr2))
+    }
 
-// The bank state and the delay rules.
-pub fn ready(
-    kind: u8,
-    l: Lane,
-    w: Waits,
-    d: Delays,
-    bus: Bus,
-    acts: [u32; 8],
-    fourth: u32,
-    stamp: u32,
-) -> bool
-    ensures { result ≡ ready_by (hot_with kind) l w d bus acts fourth stamp }
-{
-    match kind {
-        0 => true,
-        5 => act_ready(l, w, d, acts, fourth, stamp),
-        6 => rd_ready(l, w, d, bus, stamp),
-        7 => wr_ready(l, w, d, bus, stamp),
-        8 => pre_ready(l, w, d, stamp),
-        _ => false,
+    // Rules 7, 12 and 13.
+    fn wr_cycle(self, lane: Lane, bus: Bus) -> u64
+        ensures { result ≡ wr_cycle lane self self.delays bus }
+    {
+        self.whole
+            .max(after(lane.act, self.delays.trcd))
+            .max(after(bus.wr.at, 4))
+            .max(self.after_turn(bus))
+    }
+
+    // Rules 4, 8, 15 and 17.
+    fn pre_cycle(self, lane: Lane) -> u64
+        ensures { result ≡ pre_cycle lane self self.delays }
+    {
+        self.whole
+            .max(after(lane.refpb, self.delays.trfcpb))
+            .max(after(lane.act, self.delays.tras))
+            .max(after(lane.rd, self.delays.trtp.max(4)))
+            .max(self.after_wr(lane.wr, self.delays.twr, lane.wr_modes.mr2))
+    }
+
+    // Rules 4, 5, 9, 16 and 18.
+    fn idle_cycle(self, lane: Lane) -> u64
+        ensures { result ≡ idle_cycle lane self self.delays }
+    {
+        let d = self.delays;
+        let lag = u64::from(self.wl) + 5 + self.slack(lane.wra_modes.mr2);
+        let nwr = card::nwr_of(lane.wra_modes, d.twr);
+        after(lane.refpb, d.trfcpb)
+            .max(after(lane.pre, d.trppb))
+            .max(after(lane.act, d.trc))
+            .max(after_two(lane.rda, d.trtp.max(4), d.trppb, 0))
+            .max(after_two(lane.wra, nwr, d.trppb, lag))
+    }
+
+    // And 10, 11.
+    fn act_cycle(self, lane: Lane, acts: [u32; 8], fourth: u32) -> u64
+        ensures { result ≡ act_cycle lane self self.delays acts fourth }
+    {
+        self.idle
+            .max(self.idle_cycle(lane))
+            .max(after(top(acts), self.delays.trrd))
+            .max(after(fourth, self.delays.tfaw))
+    }
+
+    // The bank state and the delay rules.
+    #[tactic(auto, unfolding(crate::specs::Ready::ready_by))]
+    pub fn clears(
+        self,
+        kind: Hot,
+        lane: Lane,
+        bus: Bus,
+        acts: [u32; 8],
+        fourth: u32,
+        stamp: u32,
+    ) -> bool
+        ensures { result ≡ ready_by kind lane self self.delays bus acts fourth stamp }
+    {
+        let stamp = u64::from(stamp);
+        match kind {
+            Hot::Nop => true,
+            Hot::Act => !lane.opened && self.act_cycle(lane, acts, fourth) <= stamp,
+            Hot::Rd => lane.opened && self.rd_cycle(lane, bus) <= stamp,
+            Hot::Wr => lane.opened && self.wr_cycle(lane, bus) <= stamp,
+            Hot::Pre => self.pre_cycle(lane) <= stamp,
+            Hot::Cold => false,
+        }
     }
 }

@@ -8,12 +8,13 @@ ghost use Rattle.pins.specs.Values.{command_of, moved_of};
 ghost use Rattle.bounds.specs.Values.{look_with};
 ghost use Rattle.step.specs.Values.{refusal_of};
 
-use crate::Answer;
+use crate::Refusal;
 use bank::{Bus, Share};
 use bounds::Broken;
 use card::Delays;
 use pins::{Command, Move};
 
+#[tactic(auto, unfolding(crate::specs::Values::refusal_of, bounds::specs::Values::refusal_of))]
 pub fn delayed(
     share: Share,
     theirs: Bus,
@@ -21,14 +22,11 @@ pub fn delayed(
     command: Command,
     moved: Move,
     stamp: u32,
-) -> Answer
+) -> Result<(), Refusal>
     ensures { refusal_of result ≡ named 10 (first_broken (look_with share theirs) (delay_rules (clocks_of delays) (command_of command) (moved_of moved) share.counter) stamp) }
 {
     match bounds::first_broken(share, theirs, delays, command, moved, stamp) {
-        Broken::Nothing => Answer::Taken,
-        Broken::Rule { rule, cycle } => Answer::TooSoon {
-            rule: rule,
-            cycle: cycle,
-        },
+        None => Ok(()),
+        Some(Broken { rule, cycle }) => Err(Refusal::TooSoon { rule, cycle }),
     }
 }

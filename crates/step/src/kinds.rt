@@ -2,19 +2,36 @@
 ghost use Rattle.std.specs.Prelude.{◌≡◌};
 ghost use Rattle.rules.specs.Pins.{decode};
 ghost use Rattle.pins.specs.Places.{bank_on, ap_on};
-ghost use Rattle.step.specs.Ready.{hot_of, hot_with};
+ghost use Rattle.step.specs.Ready.{hot_of};
 
-// The number of the kind, as far as the run asks: where the pins are no command it is that of a kind that is not taken.
-pub fn kind_on(pins: u32) -> u8
-    ensures { hot_with result ≡ hot_of (decode pins) }
+// The kinds that a quick run takes; any other, and pins that are no command, are cold.
+#[derive(Clone, Copy)]
+pub enum Hot {
+    Nop,
+    Act,
+    Rd,
+    Wr,
+    Pre,
+    Cold,
+}
+
+pub fn kind_on(pins: u32) -> Hot
+    ensures { result ≡ hot_of (decode pins) }
 {
     if pins / 2097152 != 1 {
-        return 10;
+        return Hot::Cold;
     }
     if pins / 1048576 % 2 == 1 {
-        return 0;
+        return Hot::Nop;
     }
-    pins::kind_of(pins)
+    match pins::kind_of(pins) {
+        0 => Hot::Nop,
+        5 => Hot::Act,
+        6 => Hot::Rd,
+        7 => Hot::Wr,
+        8 => Hot::Pre,
+        _ => Hot::Cold,
+    }
 }
 
 pub fn bank_on(pins: u32) -> usize

@@ -3,27 +3,26 @@
 #![tactic(auto)]
 
 mod account;
-mod counts;
 mod cycles;
 mod delays;
 mod kinds;
 mod offering;
 mod pairs;
+mod progress;
+mod quick;
 mod reading;
 mod running;
 mod single;
 mod turns;
 mod waits;
 
-pub use account::as_told;
 use bank::Record;
 pub use offering::{sense, step};
 pub use turns::run;
 
-// What a caller is told: the entry is taken, or a refusal; 10 and 11 with the rule and the cycle.
-#[derive(Clone, Copy)]
-pub enum Answer {
-    Taken,
+// What refuses an entry; 10 and 11 with the first cycle, and the rule: a name that the documents give it, so a number.
+#[derive(Clone, Copy, PartialEq, Eq)]
+pub enum Refusal {
     BadRecord,
     Early,
     Overdue { rule: u8, cycle: u64 },
@@ -41,13 +40,13 @@ pub enum Answer {
 #[derive(Clone, Copy)]
 pub struct Stepped {
     pub rec: Record,
-    pub answer: Answer,
+    pub answer: Result<(), Refusal>,
 }
 
 // How far a run came: the record then, the bytes taken, how many of the entries are not NOP, and how many are counted refreshes.
 #[derive(Clone, Copy)]
-pub struct Ran {
-    pub rec: Record,
+pub struct Ran<R> {
+    pub rec: R,
     pub used: usize,
     pub commands: u64,
     pub refreshes: u64,

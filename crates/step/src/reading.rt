@@ -1,109 +1,95 @@
 // The pins, both CS_n, the bank state, what is permitted at the level, and the values of MRW and of MR4: 6, 24, 7, 8, 16, 9, 26.
 ghost use Rattle.std.specs.Prelude.{◌≡◌, false, get_or};
 ghost use Rattle.rules.specs.States.{all_closed, state_good};
-ghost use Rattle.rules.specs.Heat.{mr4_good};
-ghost use Rattle.rules.specs.Checks.{unless, value_good};
-ghost use Rattle.rules.specs.Levels.{plain};
+ghost use Rattle.rules.specs.Checks.{value_good};
 ghost use Rattle.card.specs.Values.{card_of};
-ghost use Rattle.pins.specs.Values.{command_of, decoded_of, read_of};
+ghost use Rattle.pins.specs.Values.{command_of, read_of};
 ghost use Rattle.step.specs.Values.{refusal_of};
-ghost use Rattle.step.specs.Parts.{command_refusal, reading_refusal};
+ghost use Rattle.step.specs.Parts.{command_refusal, reading_refusal, undecoded_as};
 
-use crate::Answer;
+use crate::Refusal;
 use card::Card;
-use pins::{Command, Decoded, Read};
+use pins::{Command, Read, Undecoded};
 
+// What the bank state is asked of goes by value, the open flags and the round counter: a share that holds both would be copied whole.
 // A bank above 7 is not open.
 fn is_open(opened: [bool; 8], bank: u8) -> bool
     ensures { result ≡ get_or opened bank false }
 {
-    if 7 < bank {
-        return false;
-    }
-    opened[bank as usize]
+    opened.get(bank as usize).copied().unwrap_or(false)
 }
 
 fn all_closed(opened: [bool; 8]) -> bool
     ensures { result ≡ all_closed (λ b. get_or opened b false) }
 {
-    let mut i: usize = 0;
-    while i < 8 {
-        if opened[i] {
-            return false;
-        }
-        i += 1;
-    }
-    true
+    !opened.contains(&true)
 }
 
+#[tactic(auto, unfolding(rules::specs::States::state_good, rules::specs::States::goes, rules::specs::Past::bank_at, rules::specs::Commands::bank_of, rules::specs::Commands::is, rules::specs::Commands::code, rules::specs::Commands::kind_of, rules::specs::Commands::carries, rules::specs::Commands::bare, pins::specs::Values::command_of))]
 fn state_good(opened: [bool; 8], counter: u8, command: Command) -> bool
     ensures { result ≡ state_good (λ b. get_or opened b false) counter (command_of command) }
 {
     match command {
         Command::Act { bank, .. } => !is_open(opened, bank),
-        Command::Rd { bank, .. } => is_open(opened, bank),
-        Command::Wr { bank, .. } => is_open(opened, bank),
+        Command::Rd { bank, .. } | Command::Wr { bank, .. } => is_open(opened, bank),
         Command::Refpb => !is_open(opened, counter),
-        Command::Refab => all_closed(opened),
-        Command::Mrw { .. } => all_closed(opened),
-        Command::Mrr { .. } => true,
-        Command::Pre { .. } => true,
-        Command::Prea => true,
-        Command::Nop => true,
+        Command::Refab | Command::Mrw { .. } => all_closed(opened),
+        Command::Mrr { .. } | Command::Pre { .. } | Command::Prea | Command::Nop => true,
     }
 }
 
+#[tactic(auto, using(pins::proofs::Unlisted::unlisted), unfolding(rules::specs::Checks::value_good, rules::specs::Commands::is, rules::specs::Commands::code, rules::specs::Commands::kind_of, rules::specs::Commands::carries, rules::specs::Commands::bare, pins::specs::Values::command_of, card::specs::Values::card_of))]
 fn value_good(card: Card, command: Command) -> bool
     ensures { result ≡ value_good (card_of card) (command_of command) }
 {
-    let Command::Mrw { ma, op } = command else {
-        return true;
-    };
-    card::mrw_value_good(card.period, ma, op)
+    match command {
+        Command::Mrw { ma, op } => card::mrw_value_good(card.period, ma, op),
+        _ => true,
+    }
 }
 
 // 8, then 9.
-fn command_refused(card: Card, opened: [bool; 8], counter: u8, command: Command) -> Answer
+#[tactic(auto, unfolding(crate::specs::Values::refusal_of, crate::specs::Parts::command_refusal, rules::specs::Folds::first_of, rules::specs::Folds::or_else, rules::specs::Checks::unless))]
+fn command_refused(
+    card: Card,
+    opened: [bool; 8],
+    counter: u8,
+    command: Command,
+) -> Result<(), Refusal>
     ensures { refusal_of result ≡ command_refusal (card_of card) (λ b. get_or opened b false) counter (command_of command) }
 {
     if !state_good(opened, counter, command) {
-        return Answer::State;
+        return Err(Refusal::State);
     }
     if !value_good(card, command) {
-        return Answer::Value;
+        return Err(Refusal::Value);
     }
-    Answer::Taken
+    Ok(())
 }
 
-fn pins_refused(card: Card, opened: [bool; 8], counter: u8, decoded: Decoded) -> Answer
-    ensures { refusal_of result ≡ reading_refusal (card_of card) (λ b. get_or opened b false) counter (plain (decoded_of decoded)) }
-{
-    match decoded {
-        Decoded::WrongBits => Answer::WrongBits,
-        Decoded::Reserved => Answer::Reserved,
-        Decoded::Good(command) => command_refused(card, opened, counter, command),
+// What pins are told that are no command.
+impl From<Undecoded> for Refusal {
+    ghost from_gives = { λ why given. given ≡ undecoded_as why };
+
+    #[tactic(auto, unfolding(crate::specs::Parts::undecoded_as))]
+    fn from(why: Undecoded) -> Refusal {
+        match why {
+            Undecoded::WrongBits => Refusal::WrongBits,
+            Undecoded::Reserved => Refusal::Reserved,
+        }
     }
 }
 
-// A code of MR4 that is not taken.
-fn code_refused(mr4: u8) -> Answer
-    ensures { refusal_of result ≡ unless (mr4_good mr4) 26 }
-{
-    if card::mr4_good(mr4) {
-        return Answer::Taken;
-    }
-    Answer::Code
-}
-
-pub fn reading(card: Card, opened: [bool; 8], counter: u8, read: Read) -> Answer
+pub fn reading(card: Card, opened: [bool; 8], counter: u8, read: Read) -> Result<(), Refusal>
     ensures { refusal_of result ≡ reading_refusal (card_of card) (λ b. get_or opened b false) counter (read_of read) }
 {
     match read {
-        Read::Plain(decoded) => pins_refused(card, opened, counter, decoded),
+        Read::Plain(decoded) => command_refused(card, opened, counter, decoded?),
         Read::Moved(_) => command_refused(card, opened, counter, pins::judged(read)),
-        Read::Asleep => Answer::Taken,
-        Read::Barred => Answer::Barred,
-        Read::Clash => Answer::Clash,
-        Read::Sensed(mr4) => code_refused(mr4),
+        Read::Asleep => Ok(()),
+        Read::Barred => Err(Refusal::Barred),
+        Read::Clash => Err(Refusal::Clash),
+        Read::Sensed(mr4) if !card::mr4_good(mr4) => Err(Refusal::Code),
+        Read::Sensed(_) => Ok(()),
     }
 }

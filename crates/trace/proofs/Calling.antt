@@ -1,13 +1,11 @@
--- A call with the rest of its bytes moved to the start of the buffer is a call of a run; and a read.
+-- What a call of the judge and a read leave.
 use Prim.Native.Nat.{ℕ, ◌+◌, ◌-◌, ◌≤◌, ◌<◌}
 use native.Mathlib.Omega.{arith}
 use mathlib.Core.Path.{◌≡◌, refl, sym, ap, subst, ◌∙◌}
-use mathlib.Core.Bool.{Bool, true, false, cond}
+use mathlib.Core.Bool.{Bool, true, false}
 use mathlib.Core.List.{List, ◌++◌}
-use lib.Dec.{leb}
 use lib.ListN.{length, take, drop, length-take, length-drop, length-append}
 use lib.Seq.{length-take-le, take_at, take-append-le, take-append-add}
-use borrow.Author.Tests.{le-leb}
 use borrow.Rule.Slice.PartMut.{post_of, put_mid}
 use Rattle.chunks.specs.declared.State.{State}
 use Rattle.chunks.specs.declared.Verdict.{Verdict}
@@ -17,30 +15,14 @@ use Rattle.chunks.specs.declared.What.TheVariants.{More, Full, Over}
 use Rattle.chunks.specs.Heard.{Heard, heard_of, FedAs, finished_of}
 use Rattle.judge.proofs.Progress.{used_fits, left_short}
 use Rattle.judge.proofs.Chunks.{Run, call}
-use Rattle.trace.specs.declared.turns.Next.{Next}
-use Rattle.trace.specs.declared.turns.Next.TheVariants.{Read, Judge, Tell, Done, Failed}
+use Rattle.trace.specs.declared.turns.Next.TheVariants.{Read, Judge, Tell}
 use Rattle.trace.specs.declared.turns.Turn.{Turn}
-use Rattle.trace.specs.Calls.{next_of, CalledAs, silent, ReadAs, came, none, fails, gone_to}
+use Rattle.trace.specs.Calls.{next_of, CalledAs, silent, ReadAs, came, none}
 use Rattle.trace.specs.Standing.{Fits}
 
 -- what was used was there
-pub used_there : (q : Bool) (room : ℕ) (st : State) (have : ℕ) (buf : List ℕ) {old new : List ℕ} {r : Fed} → have ≤ length buf →
-    FedAs (heard_of q room st (take have buf)) old new r → r.used ≤ have
-used_there q room st have buf h p = omega (arith, p.used, used_fits q room st (take have buf), length-take-le have buf h)
-
--- what the call and the moving promise
-pub called : (h : Heard) (have : ℕ) (buf : List ℕ) {left : ℕ} {old new after : List ℕ} {r : Fed} {next : Next} → have ≤ length buf → FedAs h old new r →
-    next ≡ next_of r.what → left ≡ have - r.used → take left after ≡ drop r.used (take have buf) →
-    CalledAs h (take have buf) old new after (record { next = next; ended = false; state = r.state; have = left; wrote = r.wrote })
-called h have buf k p x e m = record {
-  next = x ∙ ap next_of p.what;
-  ended = refl;
-  wrote = p.wrote;
-  state = p.state;
-  text = p.memory;
-  have = e ∙ (λ i. sym (length-take-le have buf k) i - p.used i) ∙ sym (length-drop h.used (take have buf));
-  rest = m ∙ ap (λ (n : ℕ). drop n (take have buf)) p.used;
-}
+pub used_there : (q : Bool) (room : ℕ) (st : State) (bs : List ℕ) {old new : List ℕ} {r : Fed} → FedAs (heard_of q room st bs) old new r → r.used ≤ length bs
+used_there q room st bs p = omega (arith, p.used, used_fits q room st bs)
 
 -- ---- what a call leaves
 module _ (h : Heard) {bytes old new after : List ℕ} {r : Turn} (p : CalledAs h bytes old new after r) where
@@ -52,6 +34,18 @@ module _ (h : Heard) {bytes old new after : List ℕ} {r : Turn} (p : CalledAs h
 
   pub left_fits : r.have ≤ length bytes
   left_fits = omega (arith, p.have, length-drop h.used bytes)
+
+  -- with what is behind the bytes in the buffer
+  pub behind_it : (tail : List ℕ) → length after ≡ length bytes → CalledAs h bytes old new (after ++ tail) r
+  behind_it tail e = record {
+    next = p.next;
+    ended = p.ended;
+    wrote = p.wrote;
+    state = p.state;
+    text = p.text;
+    have = p.have;
+    rest = take-append-le r.have after tail (omega (arith, left_fits)) ∙ p.rest;
+  }
 
 read_more : (w : What) → next_of w ≡ Read → w ≡ More
 unfolding next_of
@@ -90,9 +84,6 @@ module _ (st : State) (have : ℕ) (buf room : List ℕ) (h : have ≤ length bu
   still_there : take (length bytes) after ≡ bytes
   still_there = take_at bytes (room ++ tail) (length bytes) refl
 
-  pub read_failed : {r : Turn} → r ≡ silent Failed false st have → ReadAs st bytes after r
-  read_failed e = so (e ∙ ap (silent Failed false st) size) (fails still_there)
-
   pub none_came : {r : Turn} (v : Verdict) → v ≡ finished_of st (take have after) → r ≡ silent (Tell v) true st have → ReadAs st bytes after r
   none_came v f e =
       let g : v ≡ finished_of st bytes = f ∙ ap (λ (n : ℕ). finished_of st (take n after)) size ∙ ap (finished_of st) still_there in
@@ -120,20 +111,7 @@ pub read_fits : {st : State} {bytes buffer : List ℕ} {r : Turn} → ReadAs st 
 read_fits {bytes = bytes} {buffer = buffer} (came got s e) =
     (there (bytes ++ got) buffer refl e, (λ x. let z : ◌≡◌ {A = ℕ} 0 1 = cc in absurd (omega arith)))
 read_fits {bytes = bytes} {buffer = buffer} (none e) = (there bytes buffer refl e, (λ x. let z : ◌≡◌ {A = ℕ} 0 1 = cc in absurd (omega arith)))
-read_fits {bytes = bytes} {buffer = buffer} (fails e) = (there bytes buffer refl e, (λ x. let z : ◌≡◌ {A = ℕ} 0 1 = cc in absurd (omega arith)))
 
 pub read_silent : {st : State} {bytes buffer : List ℕ} {r : Turn} → ReadAs st bytes buffer r → r.wrote ≡ 0
 read_silent (came got s e) = refl
 read_silent (none e) = refl
-read_silent (fails e) = refl
-
--- ---- the verdict's line
-pub told : (at : Turn) (line old : List ℕ) {r : Turn} {new : List ℕ} {n : ℕ} → 64 ≤ length old → n ≡ cond (leb 64 (length old)) (length line) 0 →
-    new ≡ cond (leb 64 (length old)) (line ++ drop (length line) old) old → r ≡ gone_to at Done n →
-    (r ≡ gone_to at Done (length line)) × (take r.wrote new ≡ line)
-told at line old {r} {new} {n} h k m e =
-    let b : leb 64 (length old) ≡ true = le-leb 64 (length old) h in
-    let s : n ≡ length line = rw b at k in
-    let t : new ≡ line ++ drop (length line) old = rw b at m in
-    let w : r.wrote ≡ length line = ap (λ (t : Turn). t.wrote) e ∙ s in
-    (e ∙ ap (gone_to at Done) s, rw (w, t) (take_at line (drop (length line) old) (length line) refl))

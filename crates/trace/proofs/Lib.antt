@@ -1,4 +1,3 @@
--- Laws of bytes moved to the start of a buffer, of a call of the judge and a read, and of a turn of the program.
-pub mod Shifts
+-- Laws of a call of the judge and a read, and of a turn of the program.
 pub mod Calling
 pub mod Turning

@@ -12,17 +12,15 @@ use Rattle.chunks.specs.declared.State.{State}
 use Rattle.chunks.specs.declared.Verdict.{Verdict}
 use Rattle.chunks.specs.declared.What.{What}
 use Rattle.chunks.specs.declared.What.TheVariants.{More, Full, Over}
-use Rattle.chunks.specs.declared.fields.Move.TheVariants.{Wait}
 use Rattle.chunks.specs.Values.{verdict_of}
-use Rattle.chunks.specs.Took.{head_took, head_at, took_of}
+use Rattle.chunks.specs.Took.{Wait, head_took, head_at, took_of}
 use Rattle.chunks.specs.Heard.{start_of, Heard, behind, heard_of, finished_of}
 use Rattle.chunks.proofs.Walks.{Walk, stops_full, stops_more, stops_over, takes, walk}
 use Rattle.judge.proofs.Chunks.{Run, begin, bytes, call}
 use Rattle.judge.proofs.Streams.{chunks_end, chunks_over, chunks_end_lines, chunks_over_lines, waits}
-use Rattle.trace.specs.declared.turns.Next.{Next}
 use Rattle.trace.specs.declared.turns.Next.TheVariants.{Read, Judge, Tell, Done}
 use Rattle.trace.specs.declared.turns.Turn.{Turn}
-use Rattle.trace.specs.Calls.{next_of, CalledAs, first_turn, ReadAs, came, none, fails, gone_to}
+use Rattle.trace.specs.Calls.{next_of, CalledAs, first_turn, ReadAs, came, none, gone_to}
 use Rattle.trace.specs.Standing.{printed, Prints, StandsTo, Stands, Turned, Went, begins, turns, Fits}
 use Rattle.trace.proofs.Calling.{put_is, wrote_fits, call_runs, call_fits, there, read_fits, read_silent}
 
@@ -109,7 +107,6 @@ module _ (q : Bool) (at : Turn) (buf : List ℕ) (h : at.have ≤ length buf) wh
         rw (append-nil text, e, drop_at rest got at.have (length-take-le at.have buf h)) (bytes run got)
     read_stands (none e) {seen} {text} run w =
         rw (append-nil text, e, none_read at.have seen rest (omega (arith, length-take-le at.have buf h))) (end_prints q run w)
-    read_stands (fails e) run w = tt
 
     pub read_goes : {r : Turn} → at.next ≡ Read → ReadAs at.state rest after r → Goes q at buf r after room
     read_goes e p = record {
@@ -129,11 +126,4 @@ module _ (q : Bool) (at : Turn) (buf : List ℕ) (h : at.have ≤ length buf) wh
       fits = rw d (h, (λ x. let z : ◌≡◌ {A = ℕ} 0 1 = cc in absurd (omega arith)));
       wrote = there (verdict_line (verdict_of v)) room (ap (λ (x : Turn). x.wrote) d) t;
       stands = λ seen text s. let s' : Prints q at.ended seen (text ++ verdict_line (verdict_of v)) = rw e at s in rw (t, d, same_seen seen) s';
-    }
-
-    pub still_goes : {r : Turn} (n : Next) → at.next ≡ n → Fits at (length buf) → r ≡ gone_to at n 0 → Goes q at buf r buf room
-    still_goes n e f d = record {
-      fits = rw (d, ← e) f;
-      wrote = rw d (omega arith);
-      stands = λ seen text s. rw (d, same_seen seen, append-nil text, ← e) s;
     }

@@ -5,7 +5,7 @@ use Rattle.chunks.specs.declared.What.{What}
 use Rattle.chunks.specs.declared.What.TheVariants.{More, Full, Over}
 use Rattle.chunks.specs.Heard.{start_of, Heard, finished_of}
 use Rattle.trace.specs.declared.turns.Next.{Next}
-use Rattle.trace.specs.declared.turns.Next.TheVariants.{Read, Judge, Tell, Failed}
+use Rattle.trace.specs.declared.turns.Next.TheVariants.{Read, Judge, Tell}
 use Rattle.trace.specs.declared.turns.Turn.{Turn}
 
 -- why a call came back is what is to be done
@@ -32,11 +32,10 @@ silent next ended st have = record { next = next; ended = ended; state = st; hav
 abbrev pub first_turn : Turn
 first_turn = silent Read false start_of 0
 
--- a read: bytes came behind those that were there; or none did, and the verdict is that of a file that ends here; or it failed
+-- a read: bytes came behind those that were there; or none did, and the verdict is that of a file that ends here
 pub data ReadAs (st : State) (bytes buffer : List ℕ) : Turn → Type 0 where
   came : (got : List ℕ) → 0 < length got → take (length (bytes ++ got)) buffer ≡ bytes ++ got → ReadAs st bytes buffer (silent Judge false st (length (bytes ++ got)))
   none : take (length bytes) buffer ≡ bytes → ReadAs st bytes buffer (silent (Tell (finished_of st bytes)) true st (length bytes))
-  fails : take (length bytes) buffer ≡ bytes → ReadAs st bytes buffer (silent Failed false st (length bytes))
 
 -- ---- the same bytes and state; this is next, and so many bytes of text are there
 abbrev pub gone_to : Turn → Next → ℕ → Turn

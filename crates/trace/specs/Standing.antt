@@ -3,13 +3,12 @@ use Rattle.std.specs.Prelude.{ℕ, ◌≤◌, ◌<◌, ◌≡◌, Bool, true, fa
 use Rattle.rules.specs.File.{judge_file}
 use Rattle.rules.specs.Lines.{verdict_line, lines_of}
 use Rattle.chunks.specs.declared.State.{State}
-use Rattle.chunks.specs.declared.fields.Move.TheVariants.{Wait}
+use Rattle.chunks.specs.Took.{Wait, took_of}
 use Rattle.chunks.specs.Values.{verdict_of}
-use Rattle.chunks.specs.Took.{took_of}
 use Rattle.chunks.proofs.Bytes.{Bytes}
 use Rattle.judge.proofs.Chunks.{Run}
 use Rattle.trace.specs.declared.turns.Next.{Next}
-use Rattle.trace.specs.declared.turns.Next.TheVariants.{Read, Judge, Tell, Done, Failed}
+use Rattle.trace.specs.declared.turns.Next.TheVariants.{Read, Judge, Tell, Done}
 use Rattle.trace.specs.declared.turns.Turn.{Turn}
 use Rattle.trace.specs.Calls.{first_turn}
 
@@ -33,7 +32,6 @@ StandsTo Read quiet seen text ended st rest = Run quiet st seen text rest × ((t
 StandsTo Judge quiet seen text ended st rest = Run quiet st seen text rest
 StandsTo (Tell v) quiet seen text ended st rest = Prints quiet ended seen (text ++ verdict_line (verdict_of v))
 StandsTo Done quiet seen text ended st rest = Prints quiet ended seen text
-StandsTo Failed quiet seen text ended st rest = Unit {0}
 
 abbrev pub Stands : (quiet : Bool) → (seen text : List ℕ) → Turn → (buffer : List ℕ) → Type 0
 Stands quiet seen text at buffer = StandsTo at.next quiet seen text at.ended at.state (take at.have buffer)

@@ -4,15 +4,31 @@
 
 mod turns;
 
-ghost use Rattle.std.specs.Prelude.{◌≤◌, length};
-
 use std::env::FillError;
+use std::io::Error;
 use std::process::ExitCode;
 use std::rt::Env;
-use turns::Next;
+use turns::{Next, Turn};
 
-// Whether it was written.
-fn usage(rt: &impl Eprint) -> bool {
+// Why no verdict was told: a read or a write failed; or there were more turns than any input lasts for, since a proved loop ends.
+#[derive(Clone, Copy)]
+enum Trouble {
+    Input(Error),
+    Output(Error),
+    Endless,
+}
+
+impl Trouble {
+    fn tell(self, rt: &impl Eprint) {
+        let _ = match self {
+            Trouble::Input(e) => eprintln!(rt; "trace: standard input: {e}"),
+            Trouble::Output(e) => eprintln!(rt; "trace: standard output: {e}"),
+            Trouble::Endless => Ok(()),
+        };
+    }
+}
+
+fn usage(rt: &impl Eprint) -> Result<(), Error> {
     rt.eprint(
         "usage: trace [-q] < FILE\n\
         Judges an LPDDR3 command trace. Prints each accepted entry as its cycle, name and bank,\n\
@@ -21,41 +37,20 @@ fn usage(rt: &impl Eprint) -> bool {
         \x20 -q      print the last line only\n\
         \x20 --help  print this text\n",
     )
-    .is_ok()
 }
 
-// The first bytes of `out`, to standard output. Whether all were written.
-fn put(rt: &(impl Print + Eprint), out: &[u8], size: usize) -> bool
-    requires { size ≤ length out.now }
-{
-    match rt.write_all(&out[..size]) {
-        Ok(()) => true,
-        Err(e) => {
-            let _ = eprintln!(rt; "trace: standard output: {e}");
-            false
-        }
-    }
-}
-
-// Whether the verdict was told, and all was written.
-fn run(rt: &(impl Input + Print + Eprint), quiet: bool) -> bool {
+fn run(rt: &(impl Input + Print), quiet: bool) -> Result<(), Trouble> {
     let mut buf = io::large_buffer();
     let mut out = io::large_buffer();
-    let mut at = turns::first();
-    // A proved loop ends; no input lasts for so many turns.
-    let mut left = u64::MAX;
-    while left > 0 {
-        left -= 1;
-        at = turns::one_turn(rt, at, &mut buf, &mut out, quiet);
-        if !put(rt, &out, at.wrote) {
-            return false;
-        }
-        let next = at.next;
-        if !turns::goes_on(next) {
-            return matches!(next, Next::Done);
+    let mut at = Turn::first();
+    for _ in 0..u64::MAX {
+        at = turns::one_turn(rt, at, &mut buf, &mut out, quiet).map_err(Trouble::Input)?;
+        rt.write_all(&out[..at.wrote]).map_err(Trouble::Output)?;
+        if matches!(at.next, Next::Done) {
+            return Ok(());
         }
     }
-    false
+    Err(Trouble::Endless)
 }
 
 fn is_there(rt: &impl Env, i: usize) -> bool {
@@ -63,21 +58,22 @@ fn is_there(rt: &impl Env, i: usize) -> bool {
     !matches!(rt.arg(i, &mut word), Err(FillError::NotPresent))
 }
 
-// Whether the first argument is -q.
-fn asks_quiet(rt: &impl Env) -> bool {
+// Whether the verdict alone is asked for: with no argument it is not, with -q and no other it is. None for other arguments.
+fn asks_quiet(rt: &impl Env) -> Option<bool> {
+    if !is_there(rt, 1) {
+        return Some(false);
+    }
     let mut word = [0u8; 2];
-    matches!(rt.arg(1, &mut word), Ok(2)) && word[0] == b'-' && word[1] == b'q'
+    let is_quiet = matches!(rt.arg(1, &mut word), Ok(2)) && word == *b"-q";
+    (is_quiet && !is_there(rt, 2)).then_some(true)
 }
 
 fn main(rt: HostRuntime) -> ExitCode {
-    let well = if !is_there(&rt, 1) {
-        run(&rt, false)
-    } else if !is_there(&rt, 2) && asks_quiet(&rt) {
-        run(&rt, true)
-    } else {
-        usage(&rt)
+    let told = match asks_quiet(&rt) {
+        Some(quiet) => run(&rt, quiet).map_err(|trouble| trouble.tell(&rt)).is_ok(),
+        None => usage(&rt).is_ok(),
     };
-    if well {
+    if told {
         ExitCode::SUCCESS
     } else {
         ExitCode::FAILURE

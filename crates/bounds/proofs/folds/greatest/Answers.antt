@@ -1,12 +1,12 @@
--- The bounds from i on are still to be asked.
-use native.Mathlib.Omega.{arith}
-use Rattle.bounds.proofs.Folded.{greatest_next, greatest_of_all}
+use Rattle.std.proofs.Common.{◌∙◌, ap}
+use Rattle.std.specs.Option.{unwrap_or}
+use Rattle.std.specs.Ordering.{max_by_ordering, nat_cmp}
+use Rattle.std.proofs.lemmas.Iterator.{YieldsList-from_slice}
+use Rattle.std.proofs.lemmas.Iterator.Consumers.{YieldsList-from_copied, YieldsList-at, reduce_from_yields_List}
+use Rattle.bounds.proofs.Folded.{greatest_reduced}
 use Rattle.bounds.proofs.folds.greatest.Goals as goal
 
-pub loop-i-preserved : goal.loop-i-preserved
-loop-i-preserved c =
-    let x = c.loop-i in
-    (omega arith, rw c.greater-best.ensures (greatest_next _ x.i x.best x.invariant.1 (omega arith)))
-
 pub returns : goal.returns
-returns c = greatest_of_all _ c.loop-i.i c.loop-i.best c.loop-i.invariant.1 (omega arith)
+returns c =
+    let e = reduce_from_yields_List (λ p z. max_by_ordering (nat_cmp p z) p z) _ _ c.max.ensures.ran (YieldsList-from_copied (YieldsList-at c.copied.ensures.source (YieldsList-from_slice c.args.bounds cc))) in
+    c.unwrap_or.ensures ∙ ap (λ o. unwrap_or o 0) e ∙ greatest_reduced c.args.bounds

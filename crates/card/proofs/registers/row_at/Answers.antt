@@ -1,46 +1,22 @@
--- The arms are the rules' rows, computed at each code.
-use native.Mathlib.Omega.{arith}
-use Rattle.rules.specs.Registers.{row, latencies, at_code}
+-- The code's table is the rules', row for row.
+use Rattle.std.proofs.Common.{◌%◌, eqb, map, refl, sym, ◌∙◌, rules, tests}
+use Rattle.std.proofs.lemmas.Iterator.{YieldsList-from_slice}
+use Rattle.std.proofs.lemmas.Iterator.Adapters.{option_map_id}
+use Rattle.std.proofs.lemmas.Iterator.Consumers.{YieldsList-from_copied, YieldsList-at}
+use Rattle.std.proofs.lemmas.Iterator.Search.{find_from_yields_List}
+use Rattle.rules.specs.Registers.{row, latencies}
 use Rattle.card.specs.Rows.{row_of, found_by}
-use Rattle.card.proofs.Found.{found_by_lem, Missed, found_none}
+use Rattle.card.specs.declared.registers.Row.{Row}
+use Rattle.card.proofs.Found.{found_by_lem, first_is}
 use Rattle.card.proofs.registers.row_at.Goals as goal
 
-pub returns-in-1 : goal.returns-in-1
-unfolding found_by at_code latencies row row_of Missed
-returns-in-1 c = found_by_lem _ 0b0001 (omega arith)
-
-pub returns-in-4 : goal.returns-in-4
-unfolding found_by at_code latencies row row_of Missed
-returns-in-4 c = found_by_lem _ 0b0100 (omega arith)
-
-pub returns-in-6 : goal.returns-in-6
-unfolding found_by at_code latencies row row_of Missed
-returns-in-6 c = found_by_lem _ 0b0110 (omega arith)
-
-pub returns-in-7 : goal.returns-in-7
-unfolding found_by at_code latencies row row_of Missed
-returns-in-7 c = found_by_lem _ 0b0111 (omega arith)
-
-pub returns-in-8 : goal.returns-in-8
-unfolding found_by at_code latencies row row_of Missed
-returns-in-8 c = found_by_lem _ 0b1000 (omega arith)
-
-pub returns-in-9 : goal.returns-in-9
-unfolding found_by at_code latencies row row_of Missed
-returns-in-9 c = found_by_lem _ 0b1001 (omega arith)
-
-pub returns-in-10 : goal.returns-in-10
-unfolding found_by at_code latencies row row_of Missed
-returns-in-10 c = found_by_lem _ 0b1010 (omega arith)
-
-pub returns-in-12 : goal.returns-in-12
-unfolding found_by at_code latencies row row_of Missed
-returns-in-12 c = found_by_lem _ 0b1100 (omega arith)
-
-pub returns-in-14 : goal.returns-in-14
-unfolding found_by at_code latencies row row_of Missed
-returns-in-14 c = found_by_lem _ 0b1110 (omega arith)
-
-pub returns-in_default : goal.returns-in_default
-unfolding found_by at_code latencies row row_of Missed
-returns-in_default c = found_none _ c.in_default.in_default-own.rest
+pub returns : goal.returns
+unfolding latencies row row_of found_by
+returns c =
+    let code = c.args.mr2 % 16 in
+    sym (option_map_id c.find.result)
+    ∙ find_from_yields_List (λ (x : Row). eqb x.0 code) _ _ c.find.result c.find.ensures.ran
+    (YieldsList-from_copied (YieldsList-at c.copied.ensures.source (YieldsList-from_slice (map row_of latencies) c.iter.ensures.rest)))
+    (λ x b q k. search (rules, tests))
+    ∙ first_is code latencies
+    ∙ found_by_lem c.args.mr2 code refl

@@ -8,6 +8,9 @@ use Rattle.rules.specs.Heat.{interval_at}
 use Rattle.card.specs.Values.{card_of}
 use Rattle.card.proofs.timings.interval_at.Goals as goal
 
+max-comm : (a b : ℕ) → max a b ≡ max b a
+max-comm a b = omega arith
+
 by_quarters : (d k p : ℕ) → 250 * (d * k) / p ≡ femto d * k / (p * 4)
 unfolding femto
 by_quarters d k p =
@@ -19,5 +22,6 @@ pub returns : goal.returns
 unfolding interval_at card_of
 returns c =
     let card = c.args.card in
-    c.greater.ensures
-    ∙ ap (max 1) (c.whole_periods.ensures ∙ rw (c.in_quarters-refi.ensures.0, c.quarters.ensures.0, c.picoseconds.ensures.0) (by_quarters card.trefi _ card.period.0))
+    c.max.ensures
+    ∙ max-comm c.whole_periods.result.0 1
+    ∙ ap (max 1) (c.whole_periods.ensures ∙ rw (c.from.ensures, c.quarters.ensures.0) (by_quarters card.trefi _ card.period.0))

@@ -1,7 +1,5 @@
-use mathlib.Core.Path.{refl}
-use Rattle.card.specs.Reading.{blank_card}
+use Rattle.card.proofs.Defaults.{default_is}
 use Rattle.card.proofs.values.blank.Goals as goal
 
 pub returns : goal.returns
-unfolding blank_card
-returns c = refl
+returns c = default_is _ c.default.ensures

@@ -1,41 +1,42 @@
-use mathlib.Core.Path.{◌≡◌, sym, ◌∙◌}
-use mathlib.Core.Bool.{Bool, true, false, ◌&&◌}
-use Rattle.rules.proofs.Tests.{both_true}
-use Rattle.card.proofs.Lengths.{card_length}
-use Rattle.card.proofs.Told.{bad_tag_lem, bad_length_lem, in_fs, in_parts}
+use Rattle.std.proofs.Common.{◌≡◌, ◌≤◌, rules, sym, ◌∙◌, arith, true, ◌&&◌}
+use Rattle.rules.specs.Form.{of_card, may_follow, timing_of}
+use Rattle.card.specs.Values.{timing}
+use Rattle.card.specs.Reading.{number_for}
+use Rattle.card.proofs.Told.{taken, bad_tag_lem, in_fs, in_parts, bad_value_lem, taken_lem}
 use Rattle.card.proofs.values.read_value.Goals as goal
+use Rattle.card.proofs.values.read_value.Goals.{After-value_good, then-of_card, else-of_card, then-tag-eq1, else-tag-eq1}
 
--- the two tests of the tag, as the rules have them
-barred : {p q : Bool} (x y : Bool) → x ≡ p → y ≡ q → (x && y) ≡ false → (p && q) ≡ false
-barred x y d e h = rw (← d, ← e) h
+pub returns-then-not-may_come : goal.returns-then-not-may_come
+returns-then-not-may_come c =
+    bad_tag_lem _ _ _ _ _ _ c.wrong_tag.ensures (elim c.if-of_card.branch [ then-of_card w ↦ search rules | else-of_card w ↦ search rules ])
 
-let_come : {p q : Bool} (x y : Bool) → x ≡ p → y ≡ q → (x && y) ≡ true → (p && q) ≡ true
-let_come x y d e h = rw (← d, ← e) h
+-- what stands behind the tests of the tag and of the length
+may_come : (c : After-value_good) → (of_card c.args.tag && may_follow c.args.begun c.args.last c.args.tag) ≡ true
+may_come c = elim c.if-of_card.branch [ then-of_card w ↦ search rules | else-of_card w ↦ search rules ]
 
-pub returns-then-not-of_card-may_come : goal.returns-then-not-of_card-may_come
-returns-then-not-of_card-may_come c =
-    bad_tag_lem _ _ _ _ _ c.wrong_tag-wrong.result c.wrong_tag-wrong.ensures
-    (barred c.of_card.result c.may_come.result c.of_card.ensures c.may_come.ensures c.if-not-of_card-may_come.true)
+as_read : (c : After-value_good)
+    → (taken c.args.card c.args.tag c.if-tag-eq1.x.0 (timing c.if-tag-eq1.x.0 c.if-tag-eq1.x.1)
+    ≡ taken c.args.card c.args.tag (number_for c.args.tag c.args.value.now) (timing_of c.args.value.now))
+    × (c.if-tag-eq1.x.1 ≤ 255)
+as_read c = elim c.if-tag-eq1.branch [
+  | then-tag-eq1 w ↦ (
+    rw (w.x-is, w.period_of.ensures) (in_fs c.args.card c.args.begun c.args.last c.args.tag c.args.value.now (may_come c) (search rules) w.if-tag-eq1.true _),
+    rw w.x-is (omega arith),
+  )
+  | else-tag-eq1 w ↦ (
+    rw (w.x-is, w.first_four.ensures, w.fifth.ensures) (in_parts c.args.card c.args.begun c.args.last c.args.tag c.args.value.now (may_come c) (search rules) w.if-tag-eq1.false),
+    rw w.x-is (omega arith),
+  )
+]
 
-pub returns-then-not-length_good : goal.returns-then-not-length_good
-returns-then-not-length_good c =
-    bad_length_lem _ _ _ _ _ (let_come c.of_card.result c.may_come.result c.of_card.ensures c.may_come.ensures c.if-not-of_card-may_come.false)
-    (sym c.length_good.ensures ∙ c.if-not-length_good.true)
-
-pub returns-then-tag-eq1 : goal.returns-then-tag-eq1
-returns-then-tag-eq1 c =
-    rw (c.taken.ensures, c.period_of.ensures)
-    (in_fs _ _ _ _ _ (let_come c.of_card.result c.may_come.result c.of_card.ensures c.may_come.ensures c.if-not-of_card-may_come.false)
-    (sym c.length_good.ensures ∙ c.if-not-length_good.false) c.if-tag-eq1.true _)
-
--- a tag that may come, with a length that is listed
-pub fifth-requires : goal.fifth-requires
-fifth-requires c =
-    (card_length _ _ (both_true _ _ (let_come c.of_card.result c.may_come.result c.of_card.ensures c.may_come.ensures c.if-not-of_card-may_come.false)).0 c.if-tag-eq1.false
-    (sym c.length_good.ensures ∙ c.if-not-length_good.false)).0
+pub returns-then-not-value_good : goal.returns-then-not-value_good
+returns-then-not-value_good c =
+    let before = (goal.at.returns-then-not-value_good c).After-value_good in
+    let (so, low) = as_read before in
+    bad_value_lem _ _ _ _ _ (may_come before) (search rules) _ _ so (sym (c.value_good.ensures _ low) ∙ c.if-not-value_good.true)
 
 pub returns : goal.returns
 returns c =
-    rw (c.taken-2.ensures, c.first_four.ensures, c.fifth.ensures)
-    (in_parts _ _ _ _ _ (let_come c.of_card.result c.may_come.result c.of_card.ensures c.may_come.ensures c.if-not-of_card-may_come.false)
-    (sym c.length_good.ensures ∙ c.if-not-length_good.false) c.if-tag-eq1.false)
+    let before = (goal.at.returns c).After-value_good in
+    let (so, low) = as_read before in
+    rw c.put.ensures (taken_lem _ _ _ _ _ (may_come before) (search rules) _ _ so (sym (c.value_good.ensures _ low) ∙ c.if-not-value_good.false))

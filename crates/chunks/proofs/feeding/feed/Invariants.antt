@@ -2,8 +2,8 @@ use Rattle.std.proofs.Common.{◌-◌, length}
 use Rattle.chunks.proofs.Hearing.{Going}
 use Rattle.chunks.proofs.feeding.feed.Given as goal
 
-abbrev pub invariant-loop-cur : goal.invariant-loop-cur
-invariant-loop-cur l = Going l.quiet l.initial.cur l.bytes l.initial.out l.used l.wrote l.cur l.out
+abbrev pub invariant-loop-state : goal.invariant-loop-state
+invariant-loop-state l = Going l.quiet l.initial.state l.bytes l.initial.out l.used l.wrote l.state l.out
 
-abbrev pub decreases-loop-cur : goal.decreases-loop-cur
-decreases-loop-cur l = length l.bytes - l.used
+abbrev pub decreases-loop-state : goal.decreases-loop-state
+decreases-loop-state l = length l.bytes - l.used

@@ -1,4 +1,5 @@
-use Rattle.std.proofs.Common.{◌∙◌}
+use Rattle.std.proofs.Common.{◌≡◌, ◌∙◌, ⊎_elim}
+use Rattle.chunks.specs.declared.What.TheVariants.{More, Full}
 use Rattle.chunks.specs.Heard.{over_at}
 use Rattle.chunks.proofs.Hearing.{over_says}
 use Rattle.chunks.proofs.feeding.finish.Goals as goal
@@ -9,8 +10,9 @@ returns-in-Over c = over_says _ _ _ _ _ _ c.feed-fed.ensures c.in-Over.is
 
 pub returns-in-More : goal.returns-in-More
 unfolding over_at
-returns-in-More c = c.ended.ensures ∙ over_says _ _ _ _ _ _ c.feed-fed.ensures c.in-More.is
-
-pub returns-in-Full : goal.returns-in-Full
-unfolding over_at
-returns-in-Full c = c.ended-in-Full.ensures ∙ over_says _ _ _ _ _ _ c.feed-fed.ensures c.in-Full.is
+returns-in-More c =
+    c.verdict.ensures
+    ∙ ⊎_elim
+    (λ (e : c.feed-fed.result.what ≡ More). over_says _ _ _ _ _ _ c.feed-fed.ensures e)
+    (λ (e : c.feed-fed.result.what ≡ Full). over_says _ _ _ _ _ _ c.feed-fed.ensures e)
+    c.in-More.is

@@ -1,12 +1,11 @@
 use Rattle.std.proofs.Common.{length, ap, arith}
-use Rattle.lines.proofs.Decimals.{one_digit, one_more, short}
+use Rattle.lines.proofs.Decimals.{one_digit, short, long}
 use Rattle.lines.proofs.numbers.digits.Goals as goal
 
-pub overflow_add-n : goal.overflow_add-n
-overflow_add-n c = omega (arith, short 19 c.args.x (omega arith))
+pub returns-in-Some : goal.returns-in-Some
+returns-in-Some c =
+    let e = c.in-Some.ensures in
+    omega (arith, short c.in-Some.power c.args.x (omega (arith, e.next_power_gt)), long c.in-Some.power c.args.x e.power_le)
 
-pub loop-rest-preserved : goal.loop-rest-preserved
-loop-rest-preserved c = omega (arith, one_more c.loop-rest.rest (omega arith))
-
-pub returns : goal.returns
-returns c = omega (arith, ap length (one_digit c.loop-rest.rest (omega arith)))
+pub returns-in-None : goal.returns-in-None
+returns-in-None c = rw c.in-None.ensures.none (omega (arith, ap length (one_digit 0 (omega arith))))

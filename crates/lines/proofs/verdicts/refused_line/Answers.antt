@@ -1,5 +1,5 @@
 use Rattle.std.proofs.Common.{arith}
-use Rattle.lines.proofs.Puts.{then, written, no_room}
+use Rattle.lines.proofs.Puts.{lined_more, written, no_room}
 use Rattle.lines.proofs.Decimals.{short}
 use Rattle.lines.proofs.Joined.{refused_joined}
 use Rattle.lines.proofs.verdicts.refused_line.Goals as goal
@@ -7,47 +7,26 @@ use Rattle.lines.proofs.verdicts.refused_line.Goals as goal
 pub returns-then-out-lt64 : goal.returns-then-out-lt64
 returns-then-out-lt64 c = no_room (omega arith)
 
-pub put_number-first-requires : goal.put_number-first-requires
-put_number-first-requires c =
-    let a = c.args in
-    omega (arith, short 2 a.number (omega arith))
-
-pub put_next-second-requires : goal.put_next-second-requires
-put_next-second-requires c =
-    let a = c.args in
-    omega (arith, short 2 a.number (omega arith), short 2 a.rule (omega arith))
-
-pub put_next-third-requires : goal.put_next-third-requires
-put_next-third-requires c =
-    let a = c.args in
-    omega (arith, short 2 a.number (omega arith), short 2 a.rule (omega arith), short 19 a.offset (omega arith))
-
-pub put_next-fourth-requires : goal.put_next-fourth-requires
-put_next-fourth-requires c =
-    let a = c.args in
-    omega (arith, short 2 a.number (omega arith), short 2 a.rule (omega arith), short 19 a.offset (omega arith), short 19 a.cycle (omega arith))
-
-pub put_text-requires : goal.put_text-requires
-put_text-requires c =
-    let a = c.args in
-    omega (arith, short 2 a.number (omega arith), short 2 a.rule (omega arith), short 19 a.offset (omega arith), short 19 a.cycle (omega arith))
-
 pub returns : goal.returns
 returns c =
     let a = c.args in
-    let first = then (omega arith) c.put_text-verdict.ensures c.put_number-first.ensures in
-    let second = then (omega arith) first c.put_next-second.ensures in
-    let third = then (omega arith) second c.put_next-third.ensures in
-    let fourth = then (omega arith) third c.put_next-fourth.ensures in
+    let number = rw c.from.ensures at c.put_number-at.ensures in
+    let rule = rw c.from-2.ensures at c.put_next-at.ensures in
+    let offset = c.put_next-at-2.ensures in
+    let cycle = c.put_next-at-3.ensures in
     written (omega (arith, c.if-out-lt64.false))
     (omega (
       arith,
-      c.put_text-verdict.ensures,
-      c.put_number-first.ensures,
+      c.put_text-at.ensures.count,
+      number.count,
+      rule.count,
+      offset.count,
+      cycle.count,
+      c.put_text.ensures.count,
       short 2 a.number (omega arith),
       short 2 a.rule (omega arith),
       short 19 a.offset (omega arith),
       short 19 a.cycle (omega arith),
     ))
     (refused_joined _ _ _ _)
-    (then (omega arith) fourth c.put_text.ensures)
+    (lined_more (lined_more (lined_more (lined_more (lined_more c.put_text-at.ensures number) rule) offset) cycle) c.put_text.ensures)

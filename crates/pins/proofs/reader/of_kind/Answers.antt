@@ -4,22 +4,18 @@ use Rattle.pins.specs.Values.{command_of, decoded_of}
 use Rattle.pins.proofs.Places.{gathers}
 use Rattle.pins.proofs.reader.of_kind.Goals as goal
 
-pub returns-in-0 : goal.returns-in-0
+pub returns-in-5 : goal.returns-in-5
 unfolding decoded_of command_of of_kind kind_with
-returns-in-0 c = cc
+returns-in-5 c = let g = gathers c.args.pins in cc
 
-pub returns-in-1 : goal.returns-in-1
-unfolding decoded_of of_kind kind_with
-returns-in-1 c = cc
-
-pub returns-in-2 : goal.returns-in-2
+pub returns-in-6 : goal.returns-in-6
 unfolding decoded_of command_of of_kind kind_with
-returns-in-2 c = let g = gathers c.args.pins in cc
+returns-in-6 c = let g = gathers c.args.pins in cc
 
-pub returns-in-3 : goal.returns-in-3
+pub returns-in-7 : goal.returns-in-7
 unfolding decoded_of command_of of_kind kind_with
-returns-in-3 c = cc
+returns-in-7 c = let g = gathers c.args.pins in cc
 
-pub returns-in-4 : goal.returns-in-4
+pub returns-in-8 : goal.returns-in-8
 unfolding decoded_of command_of of_kind kind_with
-returns-in-4 c = cc
+returns-in-8 c = let g = gathers c.args.pins in cc

@@ -6,4 +6,4 @@ use Rattle.step.proofs.offering.sense.Goals as goal
 pub returns : goal.returns
 returns c =
     let w = whose_here _ _ _ (c.whose_mr4-whose.ensures _) in
-    c.offered.ensures _ refl w (read_here _ _ _ _ w c.sensed_for.ensures)
+    rw c.of.ensures (c.taken.ensures _ refl w (read_here _ _ _ _ w c.sensed_for-read.ensures))

@@ -8,4 +8,4 @@ pub returns : goal.returns
 unfolding whose_body
 returns c =
     let w = whose_here _ _ _ c.whose_pins-whose.ensures in
-    c.offered.ensures _ refl w (read_here _ _ _ _ w c.read_for.ensures)
+    rw c.of.ensures (c.taken.ensures _ refl w (read_here _ _ _ _ w c.read_for-read.ensures))

@@ -1,23 +1,31 @@
--- What was run so far, and what may follow, make up the whole run; the measure is how many entries may follow.
-use mathlib.Core.Path.{◌∙◌}
+-- So much of the run was run, and as many entries as are left may follow.
+use Prim.Native.Nat.{◌+◌, ◌-◌}
+use native.Mathlib.Nat.{sub-zero}
 use native.Mathlib.Omega.{arith}
-use Rattle.step.proofs.ByEntry.{along_start, along_fits, along_ends, along_next, along_done}
+use Rattle.step.proofs.Onward.{rest_of}
+use Rattle.step.proofs.ByEntry.{along_start, along_done, along_ends, along_fits, along_next}
 use Rattle.step.proofs.pairs.pair_run.Goals as goal
 
-pub loop-left-init : goal.loop-left-init
-loop-left-init c = rw c.nothing-part.ensures (along_start _ _ _ _ c.requires)
+pub loop-init : goal.loop-init
+loop-init c = rw (sub-zero c.args.most, c.start-ran.ensures) (along_start _ _ _ _ c.requires)
 
-pub returns-then-one-eq0 : goal.returns-then-one-eq0
-returns-then-one-eq0 c =
-    along_ends _ _ _ _ _ c.loop-left.invariant _ c.one_entry-one.ensures c.if-one-eq0.true ∙ rw c.nothing-part.ensures
+pub slice_bounds-one_entry-count : goal.slice_bounds-one_entry-count
+slice_bounds-one_entry-count c = c.loop.invariant.within
 
-pub joined-part-requires : goal.joined-part-requires
-joined-part-requires c =
-    along_fits _ _ _ _ _ c.loop-left.invariant _ c.one_entry-one.ensures (omega arith)
+pub one_entry-requires : goal.one_entry-requires
+one_entry-requires c = c.loop.invariant.sound
 
-pub loop-left-preserved : goal.loop-left-preserved
-loop-left-preserved c =
-    along_next _ _ _ _ _ c.loop-left.invariant _ c.one_entry-one.ensures c.if-one-eq0.false _ (omega arith) _ c.joined-part.ensures
+pub returns-in_default : goal.returns-in_default
+returns-in_default c = along_ends _ _ _ _ _ c.loop.invariant (rw (rest_of c.args.bytes.now c.loop.ran.used) at c.in_default.ensures)
+
+pub then-ran-requires : goal.then-ran-requires
+then-ran-requires c =
+    along_fits _ _ _ _ _ c.loop.invariant _ (rw (rest_of c.args.bytes.now c.loop.ran.used) at c.in-Some.ensures) (omega arith)
+
+pub loop-preserved : goal.loop-preserved
+loop-preserved c =
+    along_next _ _ _ _ _ c.loop.invariant _ (rw (rest_of c.args.bytes.now c.loop.ran.used) at c.in-Some.ensures) (c.args.most - (c.loop.counter + 1)) (omega arith) _
+    c.then-ran.ensures
 
 pub returns : goal.returns
-returns c = along_done _ _ _ _ _ c.loop-left.invariant (omega arith) ∙ rw c.nothing-part.ensures
+returns c = along_done _ _ _ _ _ c.loop.invariant (omega arith)

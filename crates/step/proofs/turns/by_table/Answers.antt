@@ -1,42 +1,38 @@
 -- As it is ruled, of the entry as it is read.
-use mathlib.Core.Path.{sym, ◌∙◌}
-use lib.ListN.{drop}
-use borrow.Author.Tests.{not-true, not-false}
+use mathlib.Core.Path.{refl, sym}
 use Rattle.pins.specs.Values.{read_of}
 use Rattle.ledger.specs.Values.{effect_of}
 use Rattle.step.specs.Values.{refusal_of}
+use Rattle.step.proofs.Answers.{ok_none, err_some, ok_there, err_there}
 use Rattle.step.proofs.Tabled.{table_none, Seen, seen_refused, seen_taken}
 use Rattle.step.proofs.turns.by_table.Goals as goal
-use Rattle.step.proofs.turns.by_table.Goals.{After-ruled-answer}
+use Rattle.step.proofs.turns.by_table.Goals.{After-ruled}
 
-seen : (c : After-ruled-answer) →
+seen : (c : After-ruled) →
     let a = c.args in
-    Seen a.delays a.rec (drop a.at a.bytes.now) c.entry_at-front.result (read_of c.read_pins-read.result) (effect_of c.effect_of-effect.result)
-    c.idle_bus.result c.entered-after.result (refusal_of c.ruled-answer.result)
+    Seen a.delays a.rec a.bytes.now c.in_ok-front.front (read_of c.read_pins-read.result) (effect_of c.effect_of-effect.result)
+    c.idle_bus-theirs.result c.entered-paid.result (refusal_of c.ruled.result)
 seen c = record {
-  front = c.entry_at-front.ensures;
+  front = sym c.in_ok-front.ensures;
   read = c.read_pins-read.ensures.is;
   effect = c.effect_of-effect.ensures;
-  idle = c.idle_bus.ensures;
-  account = c.entered-after.ensures;
-  told = c.ruled-answer.ensures;
+  idle = c.idle_bus-theirs.ensures;
+  account = c.entered-paid.ensures;
+  told = c.ruled.ensures;
 }
 
-pub returns-then-not-front : goal.returns-then-not-front
-returns-then-not-front c =
-    rw c.no_way.ensures
-    (table_none _ _ c.requires _ (rw (← c.entry_at-front.ensures) (not-true _ c.if-not-front.true)))
+pub returns-in_err-front : goal.returns-in_err-front
+returns-in_err-front c = rw c.from_residual.ensures (table_none _ _ (sym c.in_err-front.ensures))
 
-pub returns-then-not-taken : goal.returns-then-not-taken
-returns-then-not-taken c =
-    rw c.no_way-then-not-taken.ensures
-    (seen_refused c.requires (seen (goal.at.returns-then-not-taken c).After-ruled-answer) (sym c.taken.ensures ∙ c.if-not-taken.true))
+pub returns-in_err-ok : goal.returns-in_err-ok
+returns-in_err-ok c =
+    let e = err_there _ c.in_err-ok.ensures.value in
+    rw c.from_residual-in_err-ok.ensures (seen_refused c.requires (seen (goal.at.returns-in_err-ok c).After-ruled) _ (err_some _ e.0 e.1))
 
 pub returns : goal.returns
 returns c =
-    seen_taken c.requires (seen (goal.at.returns c).After-ruled-answer)
-    (not-false _ c.if-not-front.false)
-    (sym c.taken.ensures ∙ c.if-not-taken.false)
+    rw c.entry.ensures
+    (seen_taken c.requires (seen (goal.at.returns c).After-ruled) (ok_none _ _ (ok_there _ _ c.in_ok-ok.ensures.value))
     _ _ c.recorded-command.ensures c.move_of-moved.ensures
-    _ c.once_at-last.ensures _ c.share_after-share.ensures
-    _ _ c.commands_by.ensures c.refreshes_by.ensures
+    _ c.once_at.ensures _ c.share_after.ensures
+    _ _ refl refl)

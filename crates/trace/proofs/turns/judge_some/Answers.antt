@@ -1,11 +1,10 @@
-use Rattle.std.proofs.Common.{length}
-use Rattle.trace.proofs.Calling.{used_there, called}
+use Rattle.std.proofs.Common.{length, arith}
+use Rattle.trace.proofs.Calling.{used_there}
 use Rattle.trace.proofs.turns.judge_some.Goals as goal
 
-pub shift-left-requires : goal.shift-left-requires
-shift-left-requires c =
-    (used_there c.args.quiet (length c.args.out.now) c.args.state _ _ c.requires c.feed-fed.ensures, c.requires)
+pub copy_within-requires-clause-start_le_end : goal.copy_within-requires-clause-start_le_end
+copy_within-requires-clause-start_le_end c = used_there c.args.quiet (length c.args.out.now) c.args.state c.args.bytes.now c.feed-fed.ensures
 
-pub returns : goal.returns
-returns c =
-    called _ c.args.have c.args.buf.now c.requires c.feed-fed.ensures c.next_of.ensures c.shift-left.ensures.size c.shift-left.ensures.bytes
+pub overflow_sub-result : goal.overflow_sub-result
+overflow_sub-result c =
+    omega (arith, c.copy_within.ensures.len, used_there c.args.quiet (length c.args.out.now) c.args.state c.args.bytes.now c.feed-fed.ensures)

@@ -1,27 +1,26 @@
-use Rattle.std.proofs.Common.{length, arith}
-use Rattle.trace.proofs.Turning.{read_goes, call_goes, told_goes, still_goes}
+use Rattle.std.proofs.Common.{length, take, arith}
+use Rattle.std.proofs.lemmas.Result.{IfOk-weaker}
+use Rattle.chunks.specs.Heard.{heard_of}
+use Rattle.trace.proofs.Calling.{behind_it}
+use Rattle.trace.proofs.Turning.{read_goes, call_goes, told_goes}
 use Rattle.trace.proofs.turns.one_turn.Goals as goal
-
-pub read_some-requires : goal.read_some-requires
-read_some-requires g c = c.requires.fits_before.1 c.in-Read.is
 
 pub returns-in-Read : goal.returns-in-Read
 returns-in-Read g c =
-    read_goes c.args.quiet c.args.at c.args.buf.now c.requires.fits_before.0 c.args.out.now c.in-Read.is c.read_some.ensures
+    let a = c.args in
+    let h = c.requires.fits_before.0 in
+    record {
+      fits = IfOk-weaker c.read_some.result _ _ (λ r p. (read_goes a.quiet a.at a.buf.now h a.out.now c.in-Read.is p).fits) c.read_some.ensures;
+      wrote = IfOk-weaker c.read_some.result _ _ (λ r p. (read_goes a.quiet a.at a.buf.now h a.out.now c.in-Read.is p).wrote) c.read_some.ensures;
+      stands = IfOk-weaker c.read_some.result _ _ (λ r p. (read_goes a.quiet a.at a.buf.now h a.out.now c.in-Read.is p).stands) c.read_some.ensures;
+    }
 
 pub returns-in-Judge : goal.returns-in-Judge
 returns-in-Judge g c =
-    call_goes c.args.quiet c.args.at c.args.buf.now c.requires.fits_before.0 (length c.args.out.now) c.judge_some.ensures c.in-Judge.is c.requires.in_bounds.0
-    (omega arith)
+    let a = c.args in
+    let there = behind_it (heard_of a.quiet (length a.out.now) a.at.state (take a.at.have a.buf.now)) c.judge_some.ensures _ (omega arith) in
+    call_goes a.quiet a.at a.buf.now c.requires.fits_before.0 (length a.out.now) there c.in-Judge.is c.requires.in_bounds.0 (omega arith)
 
-pub returns-in-Tell : goal.returns-in-Tell
-returns-in-Tell g c =
-    told_goes c.args.quiet c.args.at c.args.buf.now c.requires.fits_before.0 _ _ c.in-Tell.is (c.tell.ensures.turn, c.tell.ensures.text)
-
-pub returns-in-Done : goal.returns-in-Done
-returns-in-Done g c =
-    still_goes c.args.quiet c.args.at c.args.buf.now c.requires.fits_before.0 c.args.out.now _ c.in-Done.is c.requires.fits_before c.gone_to.ensures
-
-pub returns-in-Failed : goal.returns-in-Failed
-returns-in-Failed g c =
-    still_goes c.args.quiet c.args.at c.args.buf.now c.requires.fits_before.0 c.args.out.now _ c.in-Failed.is c.requires.fits_before c.gone_to-in-Failed.ensures
+pub returns-in-Tell-clause-stands : goal.returns-in-Tell-clause-stands
+returns-in-Tell-clause-stands g c =
+    (told_goes c.args.quiet c.args.at c.args.buf.now c.requires.fits_before.0 _ _ c.in-Tell.is (c.tell.ensures.turn, c.tell.ensures.text)).stands

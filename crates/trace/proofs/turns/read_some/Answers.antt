@@ -1,15 +1,13 @@
-use Rattle.std.proofs.Common.{arith}
-use Rattle.trace.proofs.Calling.{read_failed, none_came, some_came}
+use Rattle.std.proofs.Common.{◌≡◌, add-zero, arith}
+use Rattle.trace.proofs.Calling.{none_came, some_came}
 use Rattle.trace.proofs.turns.read_some.Goals as goal
-
-pub returns-in-Ok-eq0 : goal.returns-in-Ok-eq0
-returns-in-Ok-eq0 g c =
-    none_came c.args.state c.args.have c.args.buf.now c.read.new.buf (omega arith) _ c.finish-verdict.ensures c.silent.ensures
-
-pub returns-in-Ok : goal.returns-in-Ok
-returns-in-Ok g c =
-    some_came c.args.state c.args.have c.args.buf.now c.read.new.buf (omega arith) _ (omega (arith, c.in-Ok.ensures.bound)) (omega arith) c.silent-in-Ok.ensures
+use Rattle.trace.proofs.turns.read_some.Goals.{then-more-eq0, else-more-eq0}
 
 pub returns : goal.returns
 returns g c =
-    read_failed c.args.state c.args.have c.args.buf.now c.read.new.buf (omega arith) c.silent-in-Err.ensures
+    let a = c.args in
+    elim c.if-more-eq0.branch [
+      | then-more-eq0 w ↦ let none : c.in_ok-more.more ≡ 0 = w.if-more-eq0.true in
+          none_came a.state a.have a.buf.now c.read.new.buf (omega arith) _ w.finish.ensures (rw (w.next-is, none, add-zero))
+      | else-more-eq0 w ↦ some_came a.state a.have a.buf.now c.read.new.buf (omega arith) c.in_ok-more.more (omega (arith, c.in_ok-more.ensures.bound)) (omega arith) (rw w.next-is)
+    ]

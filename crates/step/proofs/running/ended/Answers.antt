@@ -1,5 +1,0 @@
-use Rattle.step.proofs.Begun.{end_ledger}
-use Rattle.step.proofs.running.ended.Goals as goal
-
-pub returns : goal.returns
-returns c = rw (end_ledger c.args.rec _ c.requires.end_args _ c.moved-moved.ensures)
