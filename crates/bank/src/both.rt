@@ -21,7 +21,7 @@ pub fn ledgers_of(rec: Record) -> Ledgers
     }
 }
 
-// How early a refusal comes: 13, then 5, then 11 by its cycle.
+// How early a refusal comes: 13, then 5, then 11 by its cycle. A derived order would look at the rule of an 11 before its cycle.
 #[tactic(auto, unfolding(crate::specs::Both::place_of, rules::specs::Checks::refusal))]
 fn place(refusal: Refusal) -> u128
     ensures { result ≡ place_of (refused_as refusal) }
@@ -88,7 +88,7 @@ pub fn moved(ledgers: Ledgers, pace: Pace, card: Card, to: u32) -> Paid
     )
 }
 
-// On a part whose own entry it is not it does nothing.
+// On a part whose own entry it is not it does nothing. `own` is what the entry is to each part: here, in `entered_on` and in `share_taken` both are asked alike.
 #[tactic(auto, unfolding(crate::specs::Both::effect_for, rules::specs::Lent::no_effect, ledger::specs::Values::effect_of, pins::specs::Values::moved_of))]
 fn effect_on(own: bool, effect: Effect) -> Effect
     ensures { effect_of result ≡ effect_for own (effect_of effect) }

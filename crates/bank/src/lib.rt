@@ -20,7 +20,7 @@ pub use sound::good;
 pub use taking::{after, once_at, pushed, share_after};
 
 // The stamp of an entry. That there is no such entry yet is a state of its own, since a stamp uses all 32 bits.
-// A flag with a value beside it, since a record that is lent may hold any two; `stamp` reads them as an Option.
+// A flag with a value beside it: a record that is lent to `good` or `close` may hold any two, and `last_of` reads them; `stamp` gives an Option.
 #[derive(Clone, Copy, PartialEq, Eq, Default)]
 pub struct Once {
     pub seen: bool,
@@ -28,7 +28,7 @@ pub struct Once {
 }
 
 // The same with the mode registers as they stood there.
-// Plain data, as a record lends them; `stamp` and `mr2` read them as Options.
+// Plain data, as `good` is lent them and `share_of` reads them; `stamp` and `mr2` give Options.
 #[derive(Clone, Copy, PartialEq, Eq, Default)]
 pub struct Noted {
     pub seen: bool,
@@ -37,7 +37,7 @@ pub struct Noted {
 }
 
 // One of each bank.
-// Two arrays, not one of Options: eight stamps and eight flags, of which a record may lend any; `stamp` reads one as an Option.
+// An array of eight stamps and one of eight flags, as document 01 names the record's form; `good` is lent any, and `share_of` reads them. `stamp` gives an Option.
 #[derive(Clone, Copy, PartialEq, Eq, Default)]
 pub struct Each {
     pub seen: [bool; 8],
@@ -45,7 +45,7 @@ pub struct Each {
 }
 
 // The same with the mode registers as they stood there.
-// Plain data, as a record lends them; `stamps` and `mr2` read them.
+// In arrays of eight for the same reason; `stamps` and `mr2` read them.
 #[derive(Clone, Copy, PartialEq, Eq, Default)]
 pub struct NotedEach {
     pub seen: [bool; 8],
@@ -54,7 +54,7 @@ pub struct NotedEach {
 }
 
 // The last four activations of all banks, the newest first; a count above 4 is read as 4.
-// The count stands beside the array, since a record may lend any count.
+// The count stands beside the array, which document 01 names: `good` is lent any count, and `four` reads it.
 #[derive(Clone, Copy, PartialEq, Eq, Default)]
 pub struct Four {
     pub count: u8,
@@ -133,7 +133,7 @@ pub struct Ledgers {
     pub second: Ledger,
 }
 
-// What the account answers, and the ledgers then: as they stood, where it is refused.
+// What the account answers, and the ledgers then: as they stood, where it is refused. Both, and no `Result<Ledgers, Refusal>`, since `LeftBoth` says what they are on a refusal too.
 #[derive(Clone, Copy)]
 pub struct Paid {
     pub ledgers: Ledgers,

@@ -66,7 +66,7 @@ fn modes_after(modes: Modes, command: Command) -> Modes
     }
 }
 
-// The last four are an array that is passed and returned, shifted by one.
+// An array that is passed and returned, shifted by one, as document 01 names it.
 fn shift(at: [u32; 4], stamp: u32) -> [u32; 4]
     ensures { result ≡ shifted stamp at }
 {

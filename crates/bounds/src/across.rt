@@ -9,7 +9,7 @@ use bank::Bus;
 use card::Delays;
 use pins::Command;
 
-// The first cycle that an entry permits to the other part, where the rule asks for it; 0 where there is none.
+// The first cycle that an entry permits to the other part, where the rule asks for it; 0, which permits every cycle, where there is none.
 #[tactic(auto, unfolding(crate::specs::Parts::raised_after, crate::specs::Parts::answer_of))]
 fn beyond(wanted: bool, found: Option<Found>, delay: Delay, gap: u32) -> u64
     ensures { result ≡ cond wanted (raised_after delay.lag delay.clocks gap (answer_of found)) 0 }

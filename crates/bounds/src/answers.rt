@@ -49,7 +49,7 @@ const UNNOTED: Modes = Modes {
     mr1: 0,
 };
 
-// The latest entry of a kind, for all banks together, if there is one. What a record keeps is lent as four plain types (`bank`), so each has its own look.
+// The latest entry of a kind, for all banks together, if there is one. What a record keeps is lent to `first_broken` as four plain types (`bank`), so each has its own look.
 pub trait Kept {
     ghost kept: { Self → List (folds.Found registers.Modes) };
 

@@ -18,6 +18,7 @@ use Rattle.card.specs.contracts.registers.mr2_good as mr2_good
 use Rattle.card.specs.contracts.registers.nwr_of as nwr_of
 use Rattle.card.specs.contracts.timings.delays_at as delays_at
 use Rattle.card.specs.contracts.timings.interval_at as interval_at
+use Rattle.card.specs.contracts.units.greater as greater
 use Rattle.card.specs.contracts.heat.mr4_good as mr4_good
 use Rattle.card.specs.contracts.tags.may_come as may_come
 use Rattle.card.specs.contracts.tags.wrong_tag as wrong_tag
@@ -74,6 +75,12 @@ interval_at_says w = interval_at.clauses w.𝓛 w.𝓜.mem w.𝓡.run
 
 pub interval_at_determined : Determined interval_at.ended interval_at_says
 interval_at_determined = determined interval_at.ended interval_at_says (λ κs a r e. fact_of _) (λ κs a r r' ws ws' p p'. (p ∙ sym p', refl))
+
+abbrev greater_says : Promise greater.ended
+greater_says w = greater.clauses w.𝓛 w.𝓜.mem w.𝓡.run
+
+pub greater_determined : Determined greater.ended greater_says
+greater_determined = determined greater.ended greater_says (λ κs a r e. fact_of _) (λ κs a r r' ws ws' p p'. (p ∙ sym p', refl))
 
 -- the delays with these numbers
 delays_in : paper.Delays → Delays

@@ -27,6 +27,13 @@ use Rattle.card.specs.declared.Unread.TheVariants.{Tag, Length, Value}
 use Rattle.card.specs.declared.Wrong.{Wrong}
 use Rattle.card.proofs.Lengths.{card_length}
 
+-- two tests that are the rules' are good together, or not, as those are
+barred : {p q : Bool} (x y : Bool) → x ≡ p → y ≡ q → (x && y) ≡ false → (p && q) ≡ false
+barred x y d e h = rw (← d, ← e) h
+
+let_come : {p q : Bool} (x y : Bool) → x ≡ p → y ≡ q → (x && y) ≡ true → (p && q) ≡ true
+let_come x y d e h = rw (← d, ← e) h
+
 -- a value of its tag's length, by its numbers: whether it is in range, and the card with it
 abbrev pub taken : Card → (tag x : ℕ) → Timing → Bool × Card
 taken c t x y = (good c.sleeps c.period.0 t x y, put c t x y)

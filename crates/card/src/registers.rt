@@ -66,7 +66,7 @@ fn pair_of(mr2: u8, mr1: u8) -> u8
     mr2 / 16 % 2 * 8 + mr1 / 32
 }
 
-// nWR of a pair; `twr` where it is not listed.
+// nWR of a pair, by a table of its own in the documents; `twr` where it is not listed.
 #[tactic(auto, unfolding(crate::specs::Rows::recovery_at, rules::specs::Registers::at_pair, rules::specs::Registers::recoveries, rules::specs::Registers::recovery))]
 fn recovery_at(pair: u8, twr: u32) -> u32
     ensures { result ≡ recovery_at pair twr }

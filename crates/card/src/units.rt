@@ -81,3 +81,9 @@ impl Timing {
         Clocks(self.floor.0.max(n.0))
     }
 }
+
+pub fn greater(a: u64, b: u64) -> u64
+    ensures { result ≡ max a b }
+{
+    a.max(b)
+}

@@ -77,6 +77,7 @@ fn put_timing(mut card: Card, tag: u8, x: u32, floor: u8) -> Card
     card
 }
 
+// `good` says that x fits each field, so that a TryFrom would have a refusal that never comes.
 #[tactic(auto, using(std::proofs::lemmas::Bool::Decides::nat_tests, crate::proofs::Lengths::a_timing, crate::proofs::Numbers::mr2_byte, crate::proofs::Numbers::start_byte, crate::proofs::Numbers::groups_short, crate::proofs::Numbers::trefi_short, crate::proofs::Numbers::raise_short, crate::proofs::Numbers::timing_short, crate::proofs::Numbers::gap_byte), unfolding(crate::specs::Reading::put, crate::specs::Reading::good, rules::specs::Ranges::within))]
 fn put(card: Card, tag: u8, x: u64, floor: u8) -> Card
     requires { (form.of_card tag ≡ true) × (reading.good card.sleeps card.period.0 tag x (timing x floor) ≡ true) }

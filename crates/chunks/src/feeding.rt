@@ -27,7 +27,7 @@ fn has_room(quiet: bool, room: usize) -> bool
     quiet || 64 <= room
 }
 
-// All the whole fields at the start of `bytes`, with the lines of the entries, as far as there is room for them.
+// All the whole fields at the start of `bytes`, with the lines of the entries, unless `quiet`, as far as there is room for them (`FedAs`).
 pub fn feed(mut state: State, bytes: &[u8], out: &mut [u8], quiet: bool) -> Fed
     ensures { FedAs (heard_of quiet (length out.old) state bytes.now) out.old out.new result }
 {

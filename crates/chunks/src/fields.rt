@@ -98,7 +98,7 @@ impl State {
     }
 
     // The field at the start, where that is no entry of pins that is taken; none where its rest is not there yet. Behind the end field any byte is refused.
-    pub fn take_field(&self, bytes: &[u8]) -> Result<Option<Taken>, Numbers>
+    pub(crate) fn take_field(&self, bytes: &[u8]) -> Result<Option<Taken>, Numbers>
         requires { NoneHere self.now bytes.now }
         ensures { took_in self.now result ≡ took.took_of self.now bytes.now }
     {

@@ -8,7 +8,7 @@ use card::Unread;
 
 impl State {
     // How many bytes the field has that begins here; none where its rest is not there yet.
-    pub fn field_size(&self, bytes: &[u8]) -> Result<Option<usize>, Unread>
+    pub(crate) fn field_size(&self, bytes: &[u8]) -> Result<Option<usize>, Unread>
         ensures { head_in result ≡ head_as (head_at self.now bytes.now) }
     {
         if bytes.is_empty() {

@@ -43,7 +43,7 @@ fn put_lines(rec: Record, bytes: &[u8], count: usize, out: &mut [u8]) -> usize
 impl State {
     // Behind what a run took.
     #[tactic(auto, unfolding(crate::specs::Parts::state_with, crate::specs::Took::wrapped))]
-    pub fn with(&self, ran: Ran<Record>) -> State
+    pub(crate) fn with(&self, ran: Ran<Record>) -> State
         ensures { result ≡ state_with self.now ran }
     {
         State {
@@ -57,7 +57,7 @@ impl State {
 
     // The entries that are taken at the start, if there are any: none before the card is whole, and none behind the end field. Their lines are written unless `quiet`.
     // The two stay apart, since no clause can say what is written through an `Option<&mut [u8]>`.
-    pub fn leap(self, bytes: &[u8], out: &mut [u8], quiet: bool) -> Option<Ahead>
+    pub(crate) fn leap(self, bytes: &[u8], out: &mut [u8], quiet: bool) -> Option<Ahead>
         requires { (quiet || nat_le 64 (length out.old)) ≡ true }
         ensures { Leapt quiet self bytes.now out.old out.new result }
     {

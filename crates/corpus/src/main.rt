@@ -91,7 +91,7 @@ fn cuts(rt: &impl Print, file: &[u8]) -> Result<()> {
     Ok(())
 }
 
-// The bytes of the file, as many as there is room for, and how many these are.
+// The bytes of the file, as many as there is room for, and how many these are. By hand, since std's `read_to_end` wants a heap.
 fn read_full(file: &mut impl Read, room: &mut [u8]) -> std::io::Result<usize>
     ensures { IfOk result (λ n. n ≤ length room.new) }
 {
@@ -130,13 +130,14 @@ fn judge_file(rt: &(impl Files + Print + Eprint), path: &str, cut: bool) -> Resu
 fn argument(rt: &(impl Env + Files + Print + Eprint), i: usize, cut: bool) -> Result<bool> {
     let mut word = io::buffer();
     let size = rt.arg(i, &mut word).unwrap_or(0);
-    if check::same(&word[..size], b"--cuts") {
+    if word[..size] == *b"--cuts" {
         return Ok(true);
     }
     judge_file(rt, str::from_utf8(&word[..size]).unwrap_or(""), cut)?;
     Ok(cut)
 }
 
+// As in `trace`: two programs share no crate for it.
 fn is_there(rt: &impl Env, i: usize) -> bool {
     let mut word = [0u8; 1];
     !matches!(rt.arg(i, &mut word), Err(FillError::NotPresent))

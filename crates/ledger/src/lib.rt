@@ -22,7 +22,7 @@ pub use pacing::{first_pace, respaced};
 // The ledger as after cycle `at`. `owed` is the number with 8 added: 0 to 16 for -8 to 8. `skipped` of the cycles up to `at` were not counted; counted
 // cycles have numbers, and the gap counts from number `since`, that of the last counted refresh or of a later temperature, or 0. The level says whether the
 // cycles after `at` count.
-// Plain data, its fields public: a caller may lend any values, and 13 says which are sound.
+// Plain data, its fields public: a caller may lend `moved` and `entered` any values, and 13 says which are sound.
 #[derive(Clone, Copy, PartialEq, Eq)]
 pub struct Ledger {
     pub at: u32,
@@ -33,7 +33,7 @@ pub struct Ledger {
 }
 
 // When refreshes are due: one at number `next`, which may be any, none before it, and one every interval after it, by the MR4 value that was read back last.
-// Plain data, its fields public: a caller may lend any values, and any are taken.
+// Plain data, its fields public: a caller may lend `moved` and `entered` any values, and any are taken.
 #[derive(Clone, Copy, PartialEq, Eq)]
 pub struct Pace {
     pub next: u64,
@@ -56,7 +56,7 @@ pub enum Refusal {
     Overdue { rule: u8, cycle: u64 },
 }
 
-// The answer, and the ledger then: as it was, where it is refused.
+// The answer, and the ledger then: as it was, where it is refused. Both, and no `Result<Ledger, Refusal>`, since `Left` says what it is on a refusal too.
 #[derive(Clone, Copy)]
 pub struct After {
     pub ledger: Ledger,

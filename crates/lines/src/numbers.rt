@@ -1,4 +1,4 @@
-// Numbers in decimal, put at the start of a slice.
+// Numbers in decimal, put at the start of a slice: by hand, and not by `write!`, since the clauses (`Lined`) say each byte and how many there are.
 ghost use Rattle.std.specs.Prelude.{◌≡◌, ◌≤◌, ◌∷◌, length};
 ghost use Rattle.rules.specs.Lines.{decimal};
 ghost use Rattle.lines.specs.Written.{Lined};

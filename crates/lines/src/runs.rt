@@ -29,7 +29,7 @@ struct Next {
     lead: Lead,
 }
 
-// What is read where no entry stands.
+// What is read where no entry stands: `lines_at` gives a line there too.
 const NO_ENTRY: Front = Front { stamp: 0, pins: 0 };
 
 // Each part is put over what the part before it has no use for: the first digits, the end of the line with this digit, and between them the last four digits.

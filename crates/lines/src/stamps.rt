@@ -4,7 +4,8 @@ ghost use Rattle.lines.specs.Stamps.{last_four, LeadGood, PairsGood};
 
 use crate::numbers::put_number;
 
-// A multiple of ten thousand, and its digits but the last four: the first `size` of the eight bytes.
+// A multiple of ten thousand, and its digits but the last four: the first `size` of the eight bytes, which are put all eight. As a slice of its own length, and so
+// the tail, a line took 130 instructions in place of 72, since a copy of a length that is not known is a call.
 #[derive(Clone, Copy)]
 pub struct Lead {
     pub base: u32,

@@ -7,7 +7,7 @@ ghost use Rattle.lines.specs.Quick.{high_at, level_with, tail_at, TailOn};
 
 use pins::Level;
 
-// The end of a line, with 0 for the bank: the last `size` of the eight bytes, which are put all eight, for speed (`Lead` says what slices take).
+// The end of a line, with 0 for the bank: the last `size` of the eight bytes, which are put all eight, for speed (`Lead`).
 #[derive(Clone, Copy)]
 pub struct Tail {
     pub text: [u8; 8],

@@ -55,7 +55,7 @@ pub fn accepted_line(out: &mut [u8], commands: u64, refreshes: u64, owed: Owed) 
     at + put_text(&mut out[at..], b"\n")
 }
 
-// The line of a file that is refused.
+// The line of a file that is refused; 0 for want of room as there (`Written`).
 #[tactic(auto, using(crate::proofs::Decimals::short_byte, crate::proofs::Decimals::short_word, crate::proofs::Puts::lined_room, crate::proofs::Puts::lined_more))]
 pub fn refused_line(out: &mut [u8], number: u8, rule: u8, offset: u64, cycle: u64) -> usize
     ensures { Written (verdict_line (refused number rule offset cycle)) out.old out.new result }

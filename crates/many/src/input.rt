@@ -46,7 +46,7 @@ pub fn read_inside(rt: &impl Input, room: &mut [u8]) -> Result<usize, Halt>
     }
 }
 
-// The next trace's length, four bytes.
+// The next trace's length, four bytes. By hand, since std's `read_exact` does not tell an end before the first byte from one behind it.
 pub fn length_of_next(rt: &impl Input) -> Result<usize, Halt> {
     let mut head = [0u8; 4];
     let mut have = match rt.reader().read(&mut head) {

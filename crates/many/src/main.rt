@@ -11,7 +11,7 @@ use chunks::Verdict;
 use input::Halt;
 use std::process::ExitCode;
 
-// Lines that are still to be printed, in the first `wrote` bytes. There is room for one more.
+// Lines that are still to be printed, in the first `wrote` bytes of a buffer that lasts: no heap. There is room for one more.
 #[derive(Drop)]
 struct Lines {
     out: [u8; 65536],

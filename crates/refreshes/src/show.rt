@@ -42,6 +42,11 @@ pub fn stands(at: u32, owed: u8, since: u32) -> Ledger {
     lent(at, owed, since, 0, Level::Awake)
 }
 
+// With any next due.
+pub fn lent_pace(next: u64, mr4: u8) -> Pace {
+    Pace { next, mr4 }
+}
+
 pub fn effect(counted: bool, sensed: bool, moved: Move) -> Effect {
     Effect {
         counted,

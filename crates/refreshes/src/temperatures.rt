@@ -2,7 +2,8 @@
 ghost use Rattle.std.specs.Prelude.{◌<◌};
 
 use crate::show::{
-    comes, effect, enters_at, first, lent, moves, moves_at, show, show_number, show_pace, stands,
+    comes, effect, enters_at, first, lent, lent_pace, moves, moves_at, show, show_number,
+    show_pace, stands,
 };
 use card::{Card, Femtoseconds};
 use ledger::{Effect, Ledger, Pace};
@@ -13,10 +14,6 @@ use std::io;
 pub struct Stood {
     ledger: Ledger,
     pace: Pace,
-}
-
-fn lent_pace(next: u64, mr4: u8) -> Pace {
-    Pace { next, mr4 }
 }
 
 fn temperature() -> Effect {

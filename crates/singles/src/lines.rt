@@ -53,15 +53,7 @@ impl From<Refusal> for Told {
 
 impl From<ledger::Refusal> for Told {
     fn from(refusal: ledger::Refusal) -> Self {
-        match refusal {
-            ledger::Refusal::BadRecord => refused(13),
-            ledger::Refusal::Earlier => refused(5),
-            ledger::Refusal::Overdue { rule, cycle } => Told::Refused {
-                number: 11,
-                rule,
-                cycle,
-            },
-        }
+        Told::from(Refusal::from(refusal))
     }
 }
 

@@ -7,6 +7,10 @@ use ledger::Ledger;
 // What stands beside a flag that says that there is no MR1: it would be refused on a card, and is listed with either OP4.
 const NO_MR1: u8 = 0xc7;
 
+fn flagged(mr1: Option<u8>) -> (bool, u8) {
+    (mr1.is_some(), mr1.unwrap_or(NO_MR1))
+}
+
 fn put_on_card(card: &mut Card, on: OnCard) {
     match on {
         OnCard::Period(period) => card.period = Femtoseconds(period),
@@ -16,10 +20,7 @@ fn put_on_card(card: &mut Card, on: OnCard) {
         OnCard::Duration(timing, ps) => card.durations[timing as usize] = ps,
         OnCard::Floor(timing, clocks) => card.floors[timing as usize] = clocks,
         OnCard::Sleeps(sleeps) => card.sleeps = sleeps,
-        OnCard::Mr1(mr1) => {
-            card.programmed = mr1.is_some();
-            card.mr1 = mr1.unwrap_or(NO_MR1);
-        }
+        OnCard::Mr1(mr1) => (card.programmed, card.mr1) = flagged(mr1),
         OnCard::Paired(paired) => card.paired = paired,
         OnCard::Gap(gap) => card.gap = gap,
         OnCard::Raise(raise) => card.raise = raise,
@@ -29,10 +30,7 @@ fn put_on_card(card: &mut Card, on: OnCard) {
 fn put_on_modes(modes: &mut Modes, on: OnModes) {
     match on {
         OnModes::Mr2(mr2) => modes.mr2 = mr2,
-        OnModes::Mr1(mr1) => {
-            modes.programmed = mr1.is_some();
-            modes.mr1 = mr1.unwrap_or(NO_MR1);
-        }
+        OnModes::Mr1(mr1) => (modes.programmed, modes.mr1) = flagged(mr1),
     }
 }
 
@@ -46,16 +44,13 @@ fn put_on_ledger(ledger: &mut Ledger, on: OnLedger) {
     }
 }
 
-fn seen_at(at: u32) -> Once {
-    Once { seen: true, at }
-}
-
 // The mode registers beside it stay.
 fn see(noted: &mut Noted, at: u32) {
     noted.seen = true;
     noted.at = at;
 }
 
+// Here and in `see_first_noted` the arrays are those of two types, which a record lends.
 fn see_first(each: &mut Each, at: u32) {
     each.seen[0] = true;
     each.at[0] = at;
@@ -68,21 +63,21 @@ fn see_first_noted(each: &mut NotedEach, at: u32) {
 
 fn put_stamp(share: &mut Share, latest: Latest, at: u32) {
     match latest {
-        Latest::Mrw => share.latest.mrw = seen_at(at),
-        Latest::Mrr => share.latest.mrr = seen_at(at),
-        Latest::Refab => share.latest.refab = seen_at(at),
-        Latest::Refpb => share.latest.refpb = seen_at(at),
-        Latest::Prea => share.latest.prea = seen_at(at),
+        Latest::Mrw => share.latest.mrw = bank::once_at(at),
+        Latest::Mrr => share.latest.mrr = bank::once_at(at),
+        Latest::Refab => share.latest.refab = bank::once_at(at),
+        Latest::Refpb => share.latest.refpb = bank::once_at(at),
+        Latest::Prea => share.latest.prea = bank::once_at(at),
         Latest::Four => {
             share.four.count = 1;
             share.four.at[0] = at;
         }
-        Latest::Rd => share.bus.rd = seen_at(at),
+        Latest::Rd => share.bus.rd = bank::once_at(at),
         Latest::Wr => see(&mut share.bus.wr, at),
         Latest::Turn => see(&mut share.bus.turn, at),
-        Latest::Fall => share.moves.fall = seen_at(at),
-        Latest::PowerExit => share.moves.power_exit = seen_at(at),
-        Latest::SelfExit => share.moves.self_exit = seen_at(at),
+        Latest::Fall => share.moves.fall = bank::once_at(at),
+        Latest::PowerExit => share.moves.power_exit = bank::once_at(at),
+        Latest::SelfExit => share.moves.self_exit = bank::once_at(at),
         Latest::Refpb0 => see_first(&mut share.banks.refpb, at),
         Latest::Pre0 => see_first(&mut share.banks.pre, at),
         Latest::Act0 => see_first(&mut share.banks.act, at),

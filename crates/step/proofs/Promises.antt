@@ -18,6 +18,7 @@ use Rattle.step.specs.declared.Refusal.TheVariants.{BadRecord, Early, Overdue, W
 use Rattle.step.specs.declared.Stepped.{Stepped}
 use Rattle.step.specs.Values.{refused_as, refusal_of, record_by, Left}
 use Rattle.step.specs.contracts.account.RefusalFromLedgerRefusal.from as from
+use Rattle.step.specs.contracts.account.as_told as as_told
 use Rattle.step.specs.contracts.reading.RefusalFromUndecoded.from as undecoded
 use Rattle.step.specs.contracts.offering.step as step
 use Rattle.step.specs.contracts.offering.sense as sense
@@ -96,6 +97,12 @@ sense_claims κs a r e = fact_of _
 
 pub sense_determined : Determined sense.ended sense_says
 sense_determined = determined sense.ended sense_says sense_claims (λ κs a r r' ws ws' p p'. (one_stepped _ _ _ r r' p p', refl))
+
+abbrev as_told_says : Promise as_told.ended
+as_told_says w = as_told.clauses w.𝓛 w.𝓜.mem w.𝓡.run
+
+pub as_told_determined : Determined as_told.ended as_told_says
+as_told_determined = determined as_told.ended as_told_says (λ κs a r e. fact_of _) (λ κs a r r' ws ws' p p'. (one_answer r r' p p', refl))
 
 abbrev from_says : Promise from.ended
 from_says w = from.clauses w.𝓛 w.𝓜.mem w.𝓡.run

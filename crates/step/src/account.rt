@@ -61,7 +61,7 @@ pub fn opening(rises: bool, told: Result<(), ledger::Refusal>, stamp: u32) -> Re
     }
 }
 
-// What a ledger tells, as an answer of a step.
+// Why a ledger refuses, as a refusal of a step.
 impl From<ledger::Refusal> for Refusal {
     ghost from_gives = { λ told given. refused_as given ≡ paid.refused_as told };
 
@@ -72,4 +72,12 @@ impl From<ledger::Refusal> for Refusal {
             ledger::Refusal::Overdue { rule, cycle } => Refusal::Overdue { rule, cycle },
         }
     }
+}
+
+// What a ledger tells, as an answer of a step.
+#[tactic(auto, unfolding(crate::specs::Values::refusal_of, ledger::specs::Values::refusal_of))]
+pub fn as_told(told: Result<(), ledger::Refusal>) -> Result<(), Refusal>
+    ensures { refusal_of result ≡ paid.refusal_of told }
+{
+    told.map_err(Refusal::from)
 }

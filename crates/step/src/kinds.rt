@@ -4,7 +4,7 @@ ghost use Rattle.rules.specs.Pins.{decode};
 ghost use Rattle.pins.specs.Places.{bank_on, ap_on};
 ghost use Rattle.step.specs.Ready.{hot_of};
 
-// The kinds that a quick run takes; any other, and pins that are no command, are cold.
+// The kinds that a quick run takes; any other, and pins that are no command, are cold: a case and no `None`, since `hot_of` sorts every pattern.
 #[derive(Clone, Copy)]
 pub enum Hot {
     Nop,
@@ -24,6 +24,7 @@ pub fn kind_on(pins: u32) -> Hot
     if pins / 1048576 % 2 == 1 {
         return Hot::Nop;
     }
+    // The numbers are those of the table of kinds, which `kind_of` promises.
     match pins::kind_of(pins) {
         0 => Hot::Nop,
         5 => Hot::Act,
@@ -34,6 +35,7 @@ pub fn kind_on(pins: u32) -> Hot
     }
 }
 
+// As an index; a command's bank is a byte of `pins`.
 pub fn bank_on(pins: u32) -> usize
     ensures { result ≡ bank_on pins }
 {

@@ -16,6 +16,7 @@ mod single;
 mod turns;
 mod waits;
 
+pub use account::as_told;
 use bank::Record;
 pub use offering::{sense, step};
 pub use turns::run;

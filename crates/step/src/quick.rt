@@ -23,6 +23,7 @@ pub struct Quick {
     pub nops: usize,
 }
 
+// In place, where `bank` puts by value.
 fn put(each: &mut Each, bank: usize, at: u32)
     requires { bank < 8 }
     ensures { each.new ≡ put_each bank at each.old }

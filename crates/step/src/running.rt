@@ -25,13 +25,14 @@ fn stands(rec: Single, end: u64) -> bool
         && u64::from(rec.last.at) < end
 }
 
+// Without branches, in the hot loop.
 fn passes(front: Front, last: u32, end: u64, ready: bool) -> bool
     ensures { result ≡ ((ltb last front.stamp && ltb front.stamp end) && ready) }
 {
     (last < front.stamp) & (u64::from(front.stamp) < end) & ready
 }
 
-// As many bytes as so many entries have, or all.
+// As many bytes as so many entries have, or all; `most` is any number, also one whose tenfold has no 64 bits.
 fn most_bytes(most: usize, size: usize) -> usize
     ensures { result ≡ min (10 * most) size }
 {

@@ -18,6 +18,7 @@ use Rattle.chunks.specs.Heard.{start_of, Heard, behind, heard_of, finished_of}
 use Rattle.chunks.proofs.Walks.{Walk, stops_full, stops_more, stops_over, takes, walk}
 use Rattle.judge.proofs.Chunks.{Run, begin, bytes, call}
 use Rattle.judge.proofs.Streams.{chunks_end, chunks_over, chunks_end_lines, chunks_over_lines, waits}
+use Rattle.trace.specs.declared.turns.Next.{Next}
 use Rattle.trace.specs.declared.turns.Next.TheVariants.{Read, Judge, Tell, Done}
 use Rattle.trace.specs.declared.turns.Turn.{Turn}
 use Rattle.trace.specs.Calls.{next_of, CalledAs, first_turn, ReadAs, came, none, gone_to}
@@ -126,4 +127,11 @@ module _ (q : Bool) (at : Turn) (buf : List ℕ) (h : at.have ≤ length buf) wh
       fits = rw d (h, (λ x. let z : ◌≡◌ {A = ℕ} 0 1 = cc in absurd (omega arith)));
       wrote = there (verdict_line (verdict_of v)) room (ap (λ (x : Turn). x.wrote) d) t;
       stands = λ seen text s. let s' : Prints q at.ended seen (text ++ verdict_line (verdict_of v)) = rw e at s in rw (t, d, same_seen seen) s';
+    }
+
+    pub still_goes : {r : Turn} (n : Next) → at.next ≡ n → Fits at (length buf) → r ≡ gone_to at n 0 → Goes q at buf r buf room
+    still_goes n e f d = record {
+      fits = rw (d, ← e) f;
+      wrote = rw d (omega arith);
+      stands = λ seen text s. rw (d, same_seen seen, append-nil text, ← e) s;
     }

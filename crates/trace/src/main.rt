@@ -53,6 +53,7 @@ fn run(rt: &(impl Input + Print), quiet: bool) -> Result<(), Trouble> {
     Err(Trouble::Endless)
 }
 
+// As in `corpus`: two programs share no crate for it.
 fn is_there(rt: &impl Env, i: usize) -> bool {
     let mut word = [0u8; 2];
     !matches!(rt.arg(i, &mut word), Err(FillError::NotPresent))

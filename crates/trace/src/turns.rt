@@ -1,5 +1,5 @@
 // One turn of the program. The caller prints its text.
-ghost use Rattle.std.specs.Prelude.{◌≡◌, ◌≤◌, ◌<◌, length, take, IfOk};
+ghost use Rattle.std.specs.Prelude.{◌≡◌, ◌≤◌, ◌<◌, length, take, IfOk, OnErr};
 ghost use Rattle.rules.specs.Lines.{verdict_line};
 ghost use Rattle.chunks.specs.Values.{verdict_of};
 ghost use Rattle.chunks.specs.Heard.{heard_of};
@@ -75,7 +75,8 @@ fn judge_some(state: State, bytes: &mut [u8], out: &mut [u8], quiet: bool) -> Tu
 // One read, behind the bytes that are left over.
 fn read_some(rt: &impl Input, state: State, buf: &mut [u8], have: usize) -> Result<Turn, Error>
     requires { have < length buf.old }
-    ensures { IfOk result (calls.ReadAs state (take have buf.old) buf.new) }
+    ensures came { IfOk result (calls.ReadAs state (take have buf.old) buf.new) }
+    ensures kept { OnErr result (take have buf.new ≡ take have buf.old) }
 {
     let more = rt.reader().read(&mut buf[have..])?;
     let (next, ended) = if more == 0 {

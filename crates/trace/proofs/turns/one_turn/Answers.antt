@@ -10,9 +10,9 @@ returns-in-Read g c =
     let a = c.args in
     let h = c.requires.fits_before.0 in
     record {
-      fits = IfOk-weaker c.read_some.result _ _ (λ r p. (read_goes a.quiet a.at a.buf.now h a.out.now c.in-Read.is p).fits) c.read_some.ensures;
-      wrote = IfOk-weaker c.read_some.result _ _ (λ r p. (read_goes a.quiet a.at a.buf.now h a.out.now c.in-Read.is p).wrote) c.read_some.ensures;
-      stands = IfOk-weaker c.read_some.result _ _ (λ r p. (read_goes a.quiet a.at a.buf.now h a.out.now c.in-Read.is p).stands) c.read_some.ensures;
+      fits = IfOk-weaker c.read_some.result _ _ (λ r p. (read_goes a.quiet a.at a.buf.now h a.out.now c.in-Read.is p).fits) c.read_some.ensures.came;
+      wrote = IfOk-weaker c.read_some.result _ _ (λ r p. (read_goes a.quiet a.at a.buf.now h a.out.now c.in-Read.is p).wrote) c.read_some.ensures.came;
+      stands = IfOk-weaker c.read_some.result _ _ (λ r p. (read_goes a.quiet a.at a.buf.now h a.out.now c.in-Read.is p).stands) c.read_some.ensures.came;
     }
 
 pub returns-in-Judge : goal.returns-in-Judge

@@ -3,8 +3,8 @@ use Rattle.trace.proofs.Calling.{none_came, some_came}
 use Rattle.trace.proofs.turns.read_some.Goals as goal
 use Rattle.trace.proofs.turns.read_some.Goals.{then-more-eq0, else-more-eq0}
 
-pub returns : goal.returns
-returns g c =
+pub returns-clause-came : goal.returns-clause-came
+returns-clause-came g c =
     let a = c.args in
     elim c.if-more-eq0.branch [
       | then-more-eq0 w ↦ let none : c.in_ok-more.more ≡ 0 = w.if-more-eq0.true in
