@@ -8,6 +8,7 @@ ghost use Rattle.std.specs.Prelude.{◌≤◌, ◌<◌};
 use pins::{Command, Level, Read, Undecoded, Unwritten, Whose};
 use std::io;
 
+// The digest's numbers, here and below, are those of expected.py.
 fn mix(h: u64, x: u64) -> u64 {
     (h % 4294967296 * 1000003 + x % 4294967296) % 4294967296
 }

@@ -9,7 +9,7 @@ use card::{Card, Modes};
 use ledger::Ledger;
 use pins::Level;
 
-// No entry used it.
+// No entry used it. A function, since other crates call it.
 pub fn idle_bus() -> Bus
     ensures { result ≡ idle_bus }
 {

@@ -1,4 +1,4 @@
-// A flag and the value beside it as an Option.
+// A flag and the value beside it as an Option. A record lends them as four types (`share_of`), so each has its own look.
 ghost use Rattle.std.specs.Prelude.{◌≡◌, ◌<◌};
 ghost use Rattle.std.specs.Bool.{then_some};
 ghost use Rattle.bank.specs.Clauses.{stamp_at, stamps_of, mr2_at};

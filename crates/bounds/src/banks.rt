@@ -16,7 +16,7 @@ pub enum Banks {
     AllBut(u8),
 }
 
-// The bank that a command acts on: for REFpb the counter's.
+// The bank that a command acts on: for REFpb the counter's; 0 for one that acts on none, as the rules' `bank_at` has it.
 pub fn bank_at(command: Command, counter: u8) -> u8
     ensures { result ≡ bank_at (command_of command) counter }
 {

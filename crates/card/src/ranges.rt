@@ -63,7 +63,7 @@ fn timings_good(card: Card) -> bool
         .all(|&ps| duration_good(u64::from(ps)))
 }
 
-// A starting MR1, if there is one.
+// A starting MR1, if there is one: the flag and its byte, as `Card` has them.
 #[tactic(auto, unfolding(rules::specs::Ranges::mr1_start, rules::specs::Ranges::start_good, crate::specs::Values::mr1_if))]
 fn start_good(programmed: bool, mr1: u8) -> bool
     ensures { result ≡ paper.mr1_start (mr1_if programmed mr1) }

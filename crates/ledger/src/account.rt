@@ -12,7 +12,7 @@ pub struct Account {
     ghost low: { ledger.owed ≤ 16 },
 }
 
-// The first cycle at which 19 or 20 fails with no counted refresh, and which of them does.
+// The first cycle at which 19 or 20 fails with no counted refresh, and which of them does: a word of the account, as `Broken` is one of the delay rules (`bounds`).
 #[derive(Clone, Copy)]
 pub struct First {
     pub rule: u8,

@@ -11,7 +11,7 @@ use crate::account::Account;
 use crate::{After, Effect, Ledger, Pace, Refusal, moving, pacing};
 use card::Card;
 
-// The account of a ledger, where 13 lets it and its card pass.
+// The account of a ledger, where 13 lets it and its card pass. Ledger, pace and card go one by one, since `moved` and `entered` are public so.
 fn sound(ledger: Ledger, pace: Pace, card: Card) -> Result<Account, Refusal>
     ensures { Checked (unless (lent.ledger_good (card_of card) (ledger_of ledger)) 13) (Opened (card_of card) (pace_of pace) ledger) result }
 {

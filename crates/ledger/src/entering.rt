@@ -11,7 +11,7 @@ use crate::account::Account;
 use crate::beat::Beat;
 use crate::{Effect, Ledger, Refusal, moving};
 
-// A counted refresh takes 1, not below -8.
+// A counted refresh takes 1, not below -8. `counted` is what the entry is, no choice of a step.
 fn owed_after(owed: u8, counted: bool) -> u8
     ensures { result ≡ cond counted (owed - 1) owed }
 {

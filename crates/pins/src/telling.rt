@@ -7,6 +7,7 @@ ghost use Rattle.pins.specs.Values.{command_of, told_of};
 
 use crate::Command;
 
+// A pattern alone: crates above write it where they need it, and this crate would offer one function more.
 #[tactic(auto, using(crate::proofs::Unlisted::unlisted), unfolding(rules::specs::Commands::is, rules::specs::Commands::code, rules::specs::Commands::kind_of, rules::specs::Commands::carries, rules::specs::Commands::bare, crate::specs::Values::command_of))]
 pub fn is_nop(command: Command) -> bool
     ensures { result ≡ is NOP (command_of command) }

@@ -3,7 +3,7 @@ use ledger::{After, Effect, Ledger, Pace, Refusal};
 use pins::{Level, Move};
 use std::{fmt, io};
 
-// What came back.
+// What came back, a level by its place among the four.
 #[derive(Clone, Copy)]
 struct Line(After);
 

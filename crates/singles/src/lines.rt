@@ -25,6 +25,7 @@ fn refused(number: u8) -> Told {
     }
 }
 
+// The documents' numbers once more, apart from those of `chunks`: what is printed is held to the documents alone.
 impl From<Refusal> for Told {
     fn from(refusal: Refusal) -> Self {
         match refusal {

@@ -14,6 +14,7 @@ use bank::Once;
 use ledger::Effect;
 use pins::{Command, Read};
 
+// By the fields: `bank` keeps its Option of a stamp to itself.
 #[tactic(auto, unfolding(rules::specs::Lent::above_last, bank::specs::Values::last_of))]
 pub fn rises(last: Once, stamp: u32) -> bool
     ensures { result ≡ above_last (last_of last) stamp }

@@ -34,7 +34,7 @@ fn sensed_for(rec: Record, whose: Whose, mr4: u8) -> Read
 }
 
 // Of what the account tells, 13, 5, 11 below the stamp; then 6 to 10, 16, 24 and 26, of the part that the entry comes to; 11 at the stamp. Of the other part it
-// knows the bus alone.
+// knows the bus alone. These go one by one: a run over one part (`turns.rt`) has no whole record to hand.
 pub fn ruled(
     card: Card,
     last: Once,

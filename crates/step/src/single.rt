@@ -14,6 +14,7 @@ pub struct Single {
     pub share: Share,
 }
 
+// `of` beside `with`, which takes two: a `From` for one of them would part the pair.
 impl Single {
     #[tactic(auto, unfolding(crate::specs::Single::single_of))]
     pub fn of(rec: Record) -> Single

@@ -31,8 +31,8 @@ impl From<What> for Next {
     }
 }
 
-// A file half read. The first `have` bytes of the buffer are still to be judged, the first `wrote` of the lent room are to be printed. ended: no more bytes come.
-// What stands between two turns (`Stands`) is said of `have` and `ended`, so these stay beside the buffer and the state.
+// A file half read. The first `have` bytes of the buffer are still to be judged, the first `wrote` of the lent room are to be printed: both buffers are lent, no heap. `ended`: no more bytes come.
+// What stands between two turns (`Stands`) is said of `have` and `ended`, so these stay beside the buffer and the state; no code reads `ended`, and a ghost field holds facts alone.
 #[derive(Clone, Copy)]
 pub struct Turn {
     pub next: Next,
