@@ -3,7 +3,7 @@ ghost use Rattle.std.specs.Prelude.{◌≡◌, cond, [], ◌∷◌};
 ghost use Rattle.bounds.specs.Parts.{raised_after, answer_of, across_of};
 
 use crate::answers::{Found, Kept};
-use crate::delays::{Delay, Lag};
+use crate::delays::Delay;
 use crate::kinds::{is_reading, is_writing};
 use bank::Bus;
 use card::Delays;
@@ -27,11 +27,9 @@ pub fn across(theirs: &Bus, delays: &Delays, command: Command) -> [u64; 3]
     let (reading, writing) = (is_reading(command), is_writing(command));
     let (rd, wr, turn) = (theirs.rd.latest(), theirs.wr.latest(), theirs.turn.latest());
     let burst = Delay::from(4);
-    let to_write = Delay::new(Lag::Turned, delays.tdqsck, 5);
-    let to_read = Delay::new(Lag::Written, 5, delays.twtr);
     [
         beyond(reading, rd, burst, delays.gap).max(beyond(writing, wr, burst, delays.gap)),
-        beyond(writing, turn, to_write, delays.gap),
-        beyond(reading, wr, to_read, delays.gap),
+        beyond(writing, turn, Delay::to_write(delays), delays.gap),
+        beyond(reading, wr, Delay::to_read(delays), delays.gap),
     ]
 }

@@ -2,7 +2,7 @@
 ghost use Rattle.std.specs.Prelude.{◌≡◌, ◌+◌, ◌<◌, ◌^◌};
 
 use crate::answers::Found;
-use card::Modes;
+use card::{Delays, Modes};
 
 // What the mode registers as at the entry make of a delay: nothing; WL is added; RL is added and WL taken off; WL and nWR are added, n(tWR), which it holds,
 // where none is programmed.
@@ -37,6 +37,7 @@ impl From<u32> for Delay {
 
 impl Delay {
     ghost use Rattle.card.specs.Values.{modes_of};
+    ghost use Rattle.bounds.specs.declared.delays.Lag.TheVariants.{Turned, Written};
     ghost use Rattle.bounds.specs.Parts.{delay_in, permitted_after, answer_of};
 
     // Of both numbers of clocks together.
@@ -47,6 +48,19 @@ impl Delay {
             lag,
             clocks: u64::from(clocks) + u64::from(more),
         }
+    }
+
+    // From RD or MRR to WR, and from WR to RD or MRR: rules 13 and 14 of the own part's entries, 26 and 27 of the other's.
+    pub fn to_write(delays: &Delays) -> Self
+        ensures { (result.lag ≡ Turned) × (result.clocks ≡ delays.now.tdqsck + 5) }
+    {
+        Delay::new(Lag::Turned, delays.tdqsck, 5)
+    }
+
+    pub fn to_read(delays: &Delays) -> Self
+        ensures { (result.lag ≡ Written) × (result.clocks ≡ 5 + delays.now.twtr) }
+    {
+        Delay::new(Lag::Written, 5, delays.twtr)
     }
 
     // The clocks behind an entry with these mode registers.

@@ -100,11 +100,9 @@ impl Offer<'_> {
     {
         let writing = self.own_if(is_writing(self.command));
         let reading = self.own_if(is_reading(self.command));
-        let after_read = Delay::new(Lag::Turned, self.delays.tdqsck, 5);
-        let after_write = Delay::new(Lag::Written, 5, self.delays.twtr);
         [
-            self.after(Ask::RdOrMrr, writing, after_read),
-            self.after(Ask::Wr, reading, after_write),
+            self.after(Ask::RdOrMrr, writing, Delay::to_write(self.delays)),
+            self.after(Ask::Wr, reading, Delay::to_read(self.delays)),
         ]
     }
 

@@ -30,16 +30,16 @@ impl Counters {
         ensures first { result.first ≡ (if is_of 0 (whose_of whose) then counter_on (command_of command) (moved_of moved) self.first else self.first) }
         ensures second { result.second ≡ (if is_of 1 (whose_of whose) then counter_on (command_of command) (moved_of moved) self.second else self.second) }
     {
-        let first = if pins::is_first(whose) {
-            pins::counter_after(self.first, command, moved)
-        } else {
-            self.first
+        let next = |own: bool, counter: u8| {
+            if own {
+                pins::counter_after(counter, command, moved)
+            } else {
+                counter
+            }
         };
-        let second = if pins::is_second(whose) {
-            pins::counter_after(self.second, command, moved)
-        } else {
-            self.second
-        };
-        Counters { first, second }
+        Counters {
+            first: next(pins::is_first(whose), self.first),
+            second: next(pins::is_second(whose), self.second),
+        }
     }
 }

@@ -16,7 +16,7 @@ use pins::{Command, Read, Undecoded};
 fn is_open(opened: [bool; 8], bank: u8) -> bool
     ensures { result ≡ get_or opened bank false }
 {
-    opened.get(bank as usize).copied().unwrap_or(false)
+    opened.get(usize::from(bank)).copied().unwrap_or(false)
 }
 
 fn all_closed(opened: [bool; 8]) -> bool
