@@ -130,7 +130,7 @@ fn judge_file(rt: &(impl Files + Print + Eprint), path: &str, cut: bool) -> Resu
 fn argument(rt: &(impl Env + Files + Print + Eprint), i: usize, cut: bool) -> Result<bool> {
     let mut word = io::buffer();
     let size = rt.arg(i, &mut word).unwrap_or(0);
-    if word[..size] == *b"--cuts" {
+    if word[..size] == b"--cuts"[..] {
         return Ok(true);
     }
     judge_file(rt, str::from_utf8(&word[..size]).unwrap_or(""), cut)?;
