@@ -11,8 +11,8 @@ use card::Card;
 use ledger::{After, Effect, Ledger, Pace, Refusal};
 use pins::{Move, Whose};
 
-#[tactic(auto, unfolding(crate::specs::Both::ledgers_in))]
 // A function, since other crates call it.
+#[tactic(auto, unfolding(crate::specs::Both::ledgers_in))]
 pub fn ledgers_of(rec: Record) -> Ledgers
     ensures { result ≡ ledgers_in rec }
 {

@@ -10,6 +10,7 @@ pub fn close(rec: Record, end: u32) -> Paid
     ensures { ClosedAs rec end result }
 {
     let ledgers = both::ledgers_of(rec);
+    // The ledgers as they stood, which `ClosedAs` names on a refusal.
     if !sound::good(rec) {
         return Paid {
             ledgers,

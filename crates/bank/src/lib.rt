@@ -37,7 +37,7 @@ pub struct Noted {
 }
 
 // One of each bank.
-// An array of eight stamps and one of eight flags, as document 01 names the record's form; `good` is lent any, and `share_of` reads them. `stamp` gives an Option.
+// An array of eight stamps, as document 01 names it, and one of eight flags: `good` is lent any two, and `share_of` reads them. `stamp` gives an Option.
 #[derive(Clone, Copy, PartialEq, Eq, Default)]
 pub struct Each {
     pub seen: [bool; 8],
@@ -45,7 +45,7 @@ pub struct Each {
 }
 
 // The same with the mode registers as they stood there.
-// In arrays of eight for the same reason; `stamps` and `mr2` read them.
+// `good` is lent any three arrays, and `share_of` reads them; `stamps` and `mr2` give Options.
 #[derive(Clone, Copy, PartialEq, Eq, Default)]
 pub struct NotedEach {
     pub seen: [bool; 8],

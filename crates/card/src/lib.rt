@@ -28,7 +28,7 @@ pub struct Femtoseconds(pub u64);
 #[derive(Clone, Copy)]
 pub struct Clocks(pub u64);
 
-// `durations` and `floors` are two columns, the form that document 01 names, of tags 5 to 22: trcd, trppb, trpab, tras, trrd, tfaw, trtp, twr, twtr, tdqsck,
+// `durations` and `floors` are two columns, the form that document 01 names and `card_of` reads, of tags 5 to 22: trcd, trppb, trpab, tras, trrd, tfaw, trtp, twr, twtr, tdqsck,
 // trfcab, trfcpb, tmrr, tmrw, tcke, txp, tckesr, txsr. `sleeps`: tags 19 to 22 are there. `programmed`: tag 23 is there; `mr1`: its
 // starting MR1. `paired`: tag 25 is there; `gap`: its clocks between the two parts. `raise`: tag 26, what the hottest code of MR4 adds
 // to the first five durations; 0 where the card has none.

@@ -7,7 +7,7 @@ use crate::State;
 use card::Unread;
 
 impl State {
-    // How many bytes the field has that begins here; none where its rest is not there yet.
+    // How many bytes the field has that begins here; none where its rest is not there yet. In the order of `head_at`: tag, then length, then cut.
     pub(crate) fn field_size(&self, bytes: &[u8]) -> Result<Option<usize>, Unread>
         ensures { head_in result ≡ head_as (head_at self.now bytes.now) }
     {

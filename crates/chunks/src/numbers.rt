@@ -9,6 +9,7 @@ ghost use Rattle.chunks.specs.Parts.{refusal_in, unread_as, verdict_at};
 use crate::Verdict;
 use card::{Misplaced, Unread};
 
+// Rule and cycle are 0 where the documents tell none, as `verdict_of` reads them.
 #[derive(Clone, Copy)]
 pub struct Numbers {
     pub number: u8,

@@ -28,7 +28,7 @@ pub fn name_of(command: Command) -> &'static [u8]
     }
 }
 
-// The bank, where one is shown. REFpb shows the counter's.
+// The bank, where one is shown. REFpb shows the counter's. `None` for no bank, where the rules of `bounds` ask for 0.
 #[tactic(auto, unfolding(crate::specs::Names::shown_bank, rules::specs::Lines::shows_bank, rules::specs::Past::bank_at, rules::specs::Commands::bank_of, rules::specs::Commands::is, rules::specs::Commands::code, rules::specs::Commands::kind_of, rules::specs::Commands::carries, rules::specs::Commands::bare, pins::specs::Values::command_of))]
 pub fn bank_of(command: Command, counter: u8) -> Option<u8>
     ensures { shown_bank result ≡ bank_part (command_of command) counter }

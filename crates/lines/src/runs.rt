@@ -91,7 +91,7 @@ impl Writer {
 
 // The lines of so many entries of ten bytes each, one behind the other, as they were taken from this level and these round counters on (`counter` is part 0's,
 // and the one part's; `second` is part 1's), where the card has low clock-enable (`sleeps`) or has not, and is of two parts (`paired`) or is not: as many of
-// them as there are in `bytes` and as there is room for, 24 bytes each and 64 for the last.
+// them as there are in `bytes` and as there is room for, 24 bytes each and 64 for the last. Eight arguments, and two flags among them, since it is public so.
 pub fn entry_lines(
     out: &mut [u8],
     bytes: &[u8],

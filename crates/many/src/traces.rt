@@ -8,7 +8,7 @@ use chunks::{State, Verdict, What};
 // What is held of a trace.
 pub type Buffer = [u8; 65536];
 
-// A trace half read. The first `have` bytes of the buffer, which lasts from trace to trace, are still to be judged.
+// A trace half read. The first `have` bytes of the buffer, which lasts from trace to trace (no heap), are still to be judged.
 #[derive(Clone, Copy)]
 struct Half {
     what: What,

@@ -34,8 +34,9 @@ pub fn stamp_at(bytes: &[u8], at: usize) -> u32
     }
 }
 
-// The entry field at a place of some bytes, where one stands there whole. Two forms stay for the speed of a run of entries, where `from_be_bytes` in their place
-// takes 2 to 4 instructions more an entry: the head by its first two bytes, from the lower place on and so in one comparison, and the pins as a sum.
+// The entry field at a place of some bytes, where one stands there whole. Two forms stay for the speed of a run of entries, where the plain forms take 2
+// instructions more an entry (the pins by `from_be_bytes`) and 4 (the head by a slice pattern): the head by its first two bytes, from the lower place on and so in one
+// comparison, and the pins as a sum.
 #[tactic(auto, using(crate::proofs::Fronts::no_entry, crate::proofs::Fronts::other_tag, crate::proofs::Fronts::other_length, crate::proofs::Fronts::whole_field, crate::proofs::Fronts::front_there))]
 pub fn entry_at(bytes: &[u8], at: usize) -> Option<Front>
     ensures { result ≡ front_of (drop at bytes.now) }

@@ -64,7 +64,7 @@ const LOW: u64 = 0x0564_8572_0563_a571;
 
 const HIGH: u64 = 0x0564_9572_0563_a571;
 
-// An array would be copied at each call.
+// The numbers packed are the table's, as `kind_of` promises them.
 fn kind_in(kinds: u64, pins: u32) -> u8
     ensures { result ≡ kinds / 2 ^ (pins % 16 * 4) % 16 }
 {

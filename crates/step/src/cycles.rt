@@ -8,7 +8,7 @@ use crate::waits::{Waits, after, top};
 use bank::{Banks, Bus};
 use card::Modes;
 
-// What the record holds for the bank that a command names.
+// What the record holds for the bank that a command names. The mode registers beside the stamps, as the arrays of a record have them.
 #[derive(Clone, Copy)]
 pub struct Lane {
     pub opened: bool,

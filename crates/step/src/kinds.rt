@@ -4,7 +4,7 @@ ghost use Rattle.rules.specs.Pins.{decode};
 ghost use Rattle.pins.specs.Places.{bank_on, ap_on};
 ghost use Rattle.step.specs.Ready.{hot_of};
 
-// The kinds that a quick run takes; any other, and pins that are no command, are cold: a case and no `None`, since `hot_of` sorts every pattern.
+// The kinds that a quick run takes; any other, and pins that are no command, are cold: a case and no `None`, since `hot_of`, by which `ready_taken` is said, sorts every pattern.
 #[derive(Clone, Copy)]
 pub enum Hot {
     Nop,
@@ -24,7 +24,7 @@ pub fn kind_on(pins: u32) -> Hot
     if pins / 1048576 % 2 == 1 {
         return Hot::Nop;
     }
-    // The numbers are those of the table of kinds, which `kind_of` promises.
+    // The numbers are those of the table of kinds, which `kind_of` promises; the places of bits, here and below, are private to `pins`.
     match pins::kind_of(pins) {
         0 => Hot::Nop,
         5 => Hot::Act,

@@ -37,7 +37,8 @@ pub enum Refusal {
     TooSoon { rule: u8, cycle: u64 },
 }
 
-// The answer, and the record then: as it was, to the bit, where the entry is refused.
+// The answer, and the record then: as it was, to the bit, where the entry is refused. Both, and no `Result<Record, Refusal>`, since `Left` and `judges` say what it is
+// on a refusal too.
 #[derive(Clone, Copy)]
 pub struct Stepped {
     pub rec: Record,

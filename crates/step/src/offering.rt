@@ -127,7 +127,7 @@ fn taken(rec: Record, stamp: u32, whose: Whose, read: Read) -> Result<Record, Re
 }
 
 impl Stepped {
-    // The record changes where the entry is taken, and only there.
+    // The record changes where the entry is taken, and only there. As `ledger`'s own for its `After`: another type, in another crate.
     #[tactic(auto, unfolding(crate::specs::Parts::stepped_in))]
     fn of(rec: Record, taken: Result<Record, Refusal>) -> Stepped
         ensures { result ≡ stepped_in rec taken }

@@ -23,7 +23,7 @@ pub struct Quick {
     pub nops: usize,
 }
 
-// In place, where `bank` puts by value.
+// Behind a borrow, where `bank` puts by value; two functions, since a record lends two types.
 fn put(each: &mut Each, bank: usize, at: u32)
     requires { bank < 8 }
     ensures { each.new ≡ put_each bank at each.old }

@@ -25,18 +25,18 @@ fn stands(rec: Single, end: u64) -> bool
         && u64::from(rec.last.at) < end
 }
 
-// Without branches, in the hot loop.
+// By `&`, which asks all three as the clause does.
 fn passes(front: Front, last: u32, end: u64, ready: bool) -> bool
     ensures { result ≡ ((ltb last front.stamp && ltb front.stamp end) && ready) }
 {
     (last < front.stamp) & (u64::from(front.stamp) < end) & ready
 }
 
-// As many bytes as so many entries have, or all; `most` is any number, also one whose tenfold has no 64 bits.
+// As many bytes as so many entries have, or all.
 fn most_bytes(most: usize, size: usize) -> usize
     ensures { result ≡ min (10 * most) size }
 {
-    if most <= size / 10 { most * 10 } else { size }
+    most.saturating_mul(10).min(size)
 }
 
 // At most so many entries, up to the first that the quick test does not clear.

@@ -1,4 +1,4 @@
-// A record of one part, without the share that is not looked at: what a run goes over, since a share is over 400 bytes and copies are what costs.
+// A record of one part, without the share that is not looked at: what a run goes over, as its promise `RunsTo` leaves the other share out.
 ghost use Rattle.std.specs.Prelude.{◌≡◌};
 ghost use Rattle.step.specs.Single.{single_of, whole};
 
