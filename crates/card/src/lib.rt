@@ -32,7 +32,8 @@ pub struct Clocks(pub u64);
 // trfcab, trfcpb, tmrr, tmrw, tcke, txp, tckesr, txsr. `sleeps`: tags 19 to 22 are there. `programmed`: tag 23 is there; `mr1`: its
 // starting MR1. `paired`: tag 25 is there; `gap`: its clocks between the two parts. `raise`: tag 26, what the hottest code of MR4 adds
 // to the first five durations; 0 where the card has none.
-// A flag beside its byte, and no Option: callers of `in_range` and `delays_at` may hand any values, also a byte whose flag is off.
+// A flag beside its byte, and no Option: callers of `in_range` and `delays_at` may hand any values, also a byte whose flag is off; and a raise of 0 is a number as
+// `card_of` reads it, which raises nothing.
 #[derive(Clone, Copy, Default)]
 pub struct Card {
     pub period: Femtoseconds,

@@ -20,7 +20,7 @@ pub fn bank_digit(pins: u32) -> u8
     b'0' + (pins / 128 % 8) as u8
 }
 
-// Twice the kind's number, as `kind_of` promises it, and one more with auto-precharge. The places of bits are private to `pins`.
+// Twice the kind's number, as `kind_of` promises it, and one more with auto-precharge. One bit, read here as a number: a public function of `pins` for it would be no shorter.
 fn key_on(pins: u32) -> u32
     ensures { result ≡ 2 * code (kind_at (pins % 1024)) + pins / 1024 % 2 }
 {
@@ -33,7 +33,7 @@ fn ending(text: &[u8; 8], size: usize) -> Option<Tail>
     Some(Tail { text: *text, size })
 }
 
-// An arm for each key, as `tails` has a text for each. NOP too is left to the general way.
+// An arm for each key: with or-patterns for the two that are alike the proof did not close. NOP too is left to the general way.
 #[tactic(auto, unfolding(crate::specs::Quick::tail_at))]
 fn tail_at(key: u32) -> Option<Tail>
     ensures { result ≡ tail_at key }

@@ -8,7 +8,8 @@ use crate::waits::{Waits, after, top};
 use bank::{Banks, Bus};
 use card::Modes;
 
-// What the record holds for the bank that a command names. The mode registers beside the stamps, as the arrays of a record have them.
+// What the record holds for the bank that a command names. Of its stamps only the two of writes have mode registers, so that pairs
+// of both would be no plainer.
 #[derive(Clone, Copy)]
 pub struct Lane {
     pub opened: bool,
