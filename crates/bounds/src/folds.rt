@@ -14,7 +14,7 @@ use bank::{Bus, Share};
 use card::Delays;
 use pins::{Command, Move};
 
-// The rules, as their bounds stand in the table (`bounds_of`). A bound kept with its number would say that number twice, here and in the table.
+// The rules, as their bounds stand in the table (`bounds_of`).
 const RULES: [u8; 25] = [
     1, 2, 3, 4, 5, 6, 7, 8, 9, 10, 11, 12, 13, 14, 15, 16, 17, 18, 21, 22, 23, 24, 25, 26, 27,
 ];

@@ -20,7 +20,7 @@ pub fn bank_digit(pins: u32) -> u8
     b'0' + (pins / 128 % 8) as u8
 }
 
-// Twice the kind's number, as `kind_of` promises it, and one more with auto-precharge. One bit, read here as a number: a public function of `pins` for it would be no shorter.
+// Twice the kind's number, as `kind_of` promises it, and one more with auto-precharge.
 fn key_on(pins: u32) -> u32
     ensures { result ≡ 2 * code (kind_at (pins % 1024)) + pins / 1024 % 2 }
 {

@@ -24,8 +24,7 @@ pub fn kind_on(pins: u32) -> Hot
     if pins / 1048576 % 2 == 1 {
         return Hot::Nop;
     }
-    // The numbers are those of the table of kinds, which `kind_of` promises; the bits, here and below, are a line each: public functions of
-    // `pins` for them would want a promise and an edit each.
+    // The numbers are those of the table of kinds, which `kind_of` promises.
     match pins::kind_of(pins) {
         0 => Hot::Nop,
         5 => Hot::Act,

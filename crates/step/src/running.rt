@@ -25,7 +25,7 @@ fn stands(rec: Single, end: u64) -> bool
         && u64::from(rec.last.at) < end
 }
 
-// All three are asked, without a branch.
+// All three are asked.
 fn passes(front: Front, last: u32, end: u64, ready: bool) -> bool
     ensures { result ≡ ((ltb last front.stamp && ltb front.stamp end) && ready) }
 {

@@ -13,7 +13,7 @@ use bank::Record;
 use card::Delays;
 
 // One entry by the table, if it is there and is taken: as `one_entry` of `pairs.rt`, but over a `Single`, with one ledger and
-// no other bus. One function over both would want a trait of six functions for these two.
+// no other bus. One function over both would want a trait of its own for these two alone.
 fn by_table(rec: Single, delays: Delays, bytes: &[u8]) -> Option<Ran<Single>>
     requires { Ready rec delays }
     ensures { TakesOne rec bytes.now result }

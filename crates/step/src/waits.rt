@@ -24,7 +24,7 @@ pub fn after(at: u32, delay: u32) -> u64
     u64::from(at) + u64::from(delay)
 }
 
-// The latest stamp of the banks. By an iterator's `max` the proof did not close.
+// The latest stamp of the banks.
 pub fn top(stamps: [u32; 8]) -> u32
     ensures { result ≡ top_of stamps }
 {
