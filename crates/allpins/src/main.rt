@@ -1,12 +1,11 @@
 // All 2^20 CA patterns with clock enable high, in a trace of one part with CS_n low, and in one of two as each part's; others with all that can stand above
 // the CA bits; and commands that the writer refuses, for what they carry or for the part. For each rising edge a line: its kind in the table, and a digest of
-// what its patterns are read as and of the buffer after writing. The file stdout is worked out by expected.py from the lists in the documents.
+// what its patterns are read as and of the buffer after writing; a write that fails is passed over. The file stdout is worked out by expected.py from the lists in the documents.
 #![tactic(auto)]
 
 ghost use Rattle.std.specs.Prelude.{◌≤◌, ◌<◌};
 
 use pins::{Command, Level, Read, Undecoded, Unwritten, Whose};
-use std::io;
 
 // The digest's numbers, here and below, are those of expected.py.
 fn mix(h: u64, x: u64) -> u64 {
@@ -178,12 +177,11 @@ fn all_made(from: u64, n: u32) -> u64
     made(made(one, true, None, n), true, told, n)
 }
 
-fn main(rt: HostRuntime) -> io::Result<()> {
+fn main(rt: HostRuntime) {
     let kinds = pins::kinds();
     for rising in 0..1024u32 {
         let kind = kinds[rising as usize];
         let digest = all_made(others(patterns(rising), rising), rising);
-        println!(rt; "{kind} {digest}")?;
+        let _ = println!(rt; "{kind} {digest}");
     }
-    Ok(())
 }

@@ -5,7 +5,7 @@ use std::io;
 use std::io::Read;
 
 // Why no more verdicts come.
-#[derive(Drop)]
+#[derive(Clone, Copy)]
 pub enum Halt {
     // The input ends behind a trace.
     Ended,

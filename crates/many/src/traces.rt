@@ -1,12 +1,9 @@
 // One trace of the stream.
-ghost use Rattle.std.specs.Prelude.{◌+◌, ◌<◌, ◌≤◌, IfOk};
+ghost use Rattle.std.specs.Prelude.{◌+◌, ◌<◌, ◌≤◌, IfOk, length};
 
 use crate::input;
 use crate::input::Halt;
 use chunks::{State, Verdict, What};
-
-// What is held of a trace.
-pub type Buffer = [u8; 65536];
 
 // A trace half read. The first `have` bytes of the buffer, which lasts from trace to trace (no heap), are still to be judged.
 #[derive(Clone, Copy)]
@@ -14,7 +11,7 @@ struct Half {
     what: What,
     state: State,
     have: usize,
-    ghost short: { have < 65536 },
+    ghost short: { have < 11 },
 }
 
 impl Half {
@@ -38,9 +35,9 @@ impl Half {
         let fed = chunks::feed(self.state, held, &mut [], true);
         held.copy_within(fed.used.., 0);
         let have = match fed.what {
-            What::More => held.len() - fed.used,
+            What::Over(_) => 0,
             // It never asks for room, since it writes no line.
-            What::Over(_) | What::Full => 0,
+            What::More | What::Full => held.len() - fed.used,
         };
         Half {
             what: fed.what,
@@ -49,7 +46,9 @@ impl Half {
         }
     }
 
-    fn verdict(self, buf: &Buffer) -> Verdict {
+    fn verdict(self, buf: &[u8]) -> Verdict
+        requires { 11 ≤ length buf.now }
+    {
         match self.what {
             What::Over(verdict) => verdict,
             What::More | What::Full => chunks::finish(self.state, &buf[..self.have]),
@@ -58,15 +57,17 @@ impl Half {
 }
 
 // One read of a trace of which so many bytes are still to come, behind those that are held. How many came.
-fn read_on(rt: &impl Input, buf: &mut Buffer, have: usize, left: usize) -> Result<usize, Halt>
-    requires { (have < 65536) × (0 < left) }
-    ensures { IfOk result (λ n. (0 < n) × (n ≤ left) × (have + n ≤ 65536)) }
+fn read_on(rt: &impl Input, buf: &mut [u8], have: usize, left: usize) -> Result<usize, Halt>
+    requires { (have < length buf.old) × (0 < left) }
+    ensures { IfOk result (λ n. (0 < n) × (n ≤ left) × (have + n ≤ length buf.new)) }
 {
-    let end = have + left.min(65536 - have);
+    let end = have + left.min(buf.len() - have);
     input::read_inside(rt, &mut buf[have..end])
 }
 
-pub fn judge_next(rt: &impl Input, buf: &mut Buffer) -> Result<Verdict, Halt> {
+pub fn judge_next(rt: &impl Input, buf: &mut [u8]) -> Result<Verdict, Halt>
+    requires { 11 ≤ length buf.old }
+{
     let mut left = input::length_of_next(rt)?;
     let mut half = Half::new();
     while left > 0 {

@@ -9,7 +9,6 @@ use card::{Card, Femtoseconds};
 use ledger::Ledger;
 use pins::{Level, Move};
 use show::{comes, enters, lent, moves, refreshed, stands};
-use std::io;
 
 mod periods;
 mod show;
@@ -29,47 +28,45 @@ fn refreshes(from: Ledger, first: u32, count: u32) -> Ledger
     ledger
 }
 
-fn paper(rt: &impl Print) -> io::Result<()> {
+fn paper(rt: &impl Print) {
     let fresh = stands(0, 8, 0);
-    moves(rt, fresh, 28079)?;
-    moves(rt, fresh, 28080)?;
+    moves(rt, fresh, 28079);
+    moves(rt, fresh, 28080);
     let eight = refreshes(fresh, 0, 8);
-    moves(rt, eight, 28808)?;
-    moves(rt, eight, 28809)?;
+    moves(rt, eight, 28808);
+    moves(rt, eight, 28809);
     let nine = refreshes(fresh, 0, 9);
-    moves(rt, nine, 832)?;
-    moves(rt, nine, 28912)?;
-    moves(rt, nine, 28913)?;
-    Ok(())
+    moves(rt, nine, 832);
+    moves(rt, nine, 28912);
+    moves(rt, nine, 28913);
 }
 
 // A due at the cycle where the ledger stands is not added again; a refresh at a cycle that would fail pays first.
-fn own_cycles(rt: &impl Print) -> io::Result<()> {
-    let due = moves(rt, stands(0, 8, 0), 3120)?;
-    enters(rt, due, 3120, false, Move::Stays)?;
-    enters(rt, due, 3120, true, Move::Stays)?;
-    enters(rt, stands(0, 8, 0), 3120, false, Move::Stays)?;
-    let full = moves(rt, stands(0, 8, 0), 28079)?;
-    enters(rt, full, 28080, true, Move::Stays)?;
-    enters(rt, full, 28080, false, Move::Stays)?;
-    enters(rt, full, 28081, true, Move::Stays)?;
-    enters(rt, stands(0, 0, 0), 28080, false, Move::Stays)?;
-    enters(rt, stands(0, 0, 0), 28081, false, Move::Stays)?;
-    enters(rt, stands(0, 0, 0), 28081, true, Move::Stays)?;
-    Ok(())
+fn own_cycles(rt: &impl Print) {
+    let due = moves(rt, stands(0, 8, 0), 3120);
+    enters(rt, due, 3120, false, Move::Stays);
+    enters(rt, due, 3120, true, Move::Stays);
+    enters(rt, stands(0, 8, 0), 3120, false, Move::Stays);
+    let full = moves(rt, stands(0, 8, 0), 28079);
+    enters(rt, full, 28080, true, Move::Stays);
+    enters(rt, full, 28080, false, Move::Stays);
+    enters(rt, full, 28081, true, Move::Stays);
+    enters(rt, stands(0, 0, 0), 28080, false, Move::Stays);
+    enters(rt, stands(0, 0, 0), 28081, false, Move::Stays);
+    enters(rt, stands(0, 0, 0), 28081, true, Move::Stays);
 }
 
-fn refusals(rt: &impl Print) -> io::Result<()> {
-    moves(rt, stands(5, 17, 0), 9)?;
-    moves(rt, stands(5, 8, 6), 4)?;
-    moves(rt, stands(5, 8, 5), 4)?;
-    enters(rt, stands(5, 255, 0), 9, true, Move::Stays)?;
-    enters(rt, stands(5, 8, 5), 4, true, Move::Stays)?;
+fn refusals(rt: &impl Print) {
+    moves(rt, stands(5, 17, 0), 9);
+    moves(rt, stands(5, 8, 6), 4);
+    moves(rt, stands(5, 8, 5), 4);
+    enters(rt, stands(5, 255, 0), 9, true, Move::Stays);
+    enters(rt, stands(5, 8, 5), 4, true, Move::Stays);
     let bad = Card {
         period: Femtoseconds(0),
         ..card::bench()
     };
-    show::show(rt, ledger::moved(stands(0, 8, 0), show::first(), bad, 1))?;
+    show::show(rt, ledger::moved(stands(0, 8, 0), show::first(), bad, 1));
     show::show(
         rt,
         ledger::entered(
@@ -79,8 +76,7 @@ fn refusals(rt: &impl Print) -> io::Result<()> {
             1,
             show::effect(false, false, Move::Stays),
         ),
-    )?;
-    Ok(())
+    );
 }
 
 // Eight intervals on, nine refreshes there, and behind them a self-refresh of so many cycles, or none.
@@ -111,32 +107,31 @@ fn all_cycles(from: Ledger, asleep: u64) -> Ledger
     ledger
 }
 
-fn main(rt: HostRuntime) -> io::Result<()> {
-    paper(&rt)?;
-    own_cycles(&rt)?;
-    refusals(&rt)?;
-    sleeps::all(&rt)?;
-    temperatures::all(&rt)?;
-    periods::all(&rt)?;
-    moves(&rt, stands(0, 8, 0), 4294967295)?;
-    moves(&rt, stands(4294939215, 8, 4294939215), 4294967295)?;
-    moves(&rt, stands(4294967295, 16, 0), 4294967295)?;
+fn main(rt: HostRuntime) {
+    paper(&rt);
+    own_cycles(&rt);
+    refusals(&rt);
+    sleeps::all(&rt);
+    temperatures::all(&rt);
+    periods::all(&rt);
+    moves(&rt, stands(0, 8, 0), 4294967295);
+    moves(&rt, stands(4294939215, 8, 4294939215), 4294967295);
+    moves(&rt, stands(4294967295, 16, 0), 4294967295);
     moves(
         &rt,
         lent(4294967295, 16, 0, 4294967295, Level::Awake),
         4294967295,
-    )?;
+    );
     moves(
         &rt,
         lent(4294967000, 16, 0, 4294939000, Level::Awake),
         4294967295,
-    )?;
+    );
     moves(
         &rt,
         lent(4294967000, 16, 0, 4294939000, Level::Deep),
         4294967295,
-    )?;
-    moves(&rt, all_cycles(stands(0, 8, 0), 0), 4294967295)?;
-    moves(&rt, all_cycles(stands(0, 8, 0), 100000), 4294940000)?;
-    Ok(())
+    );
+    moves(&rt, all_cycles(stands(0, 8, 0), 0), 4294967295);
+    moves(&rt, all_cycles(stands(0, 8, 0), 100000), 4294940000);
 }

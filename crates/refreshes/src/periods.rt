@@ -4,7 +4,6 @@ use crate::show::{effect, first, lent_pace, show, show_number, show_pace, stands
 use card::{Card, Femtoseconds};
 use ledger::Pace;
 use pins::Move;
-use std::io;
 
 // With the fastest latency, which every period of the range permits.
 fn with_period(fs: u64, trefi: u32) -> Card {
@@ -16,25 +15,23 @@ fn with_period(fs: u64, trefi: u32) -> Card {
     }
 }
 
-fn under(rt: &impl Print, fine: Card, mr4: u8) -> io::Result<()> {
-    let pace = show_pace(rt, ledger::respaced(lent_pace(4294967296, 3), fine, 0, mr4))?;
-    show_number(rt, ledger::deadline(stands(0, 8, 0), pace, fine))?;
-    show(rt, ledger::moved(stands(0, 8, 0), pace, fine, 8180))?;
-    show(rt, ledger::moved(stands(0, 8, 0), pace, fine, 8181))?;
-    Ok(())
+fn under(rt: &impl Print, fine: Card, mr4: u8) {
+    let pace = show_pace(rt, ledger::respaced(lent_pace(4294967296, 3), fine, 0, mr4));
+    show_number(rt, ledger::deadline(stands(0, 8, 0), pace, fine));
+    show(rt, ledger::moved(stands(0, 8, 0), pace, fine, 8180));
+    show(rt, ledger::moved(stands(0, 8, 0), pace, fine, 8181));
 }
 
-fn every_code(rt: &impl Print, trefi: u32) -> io::Result<()> {
+fn every_code(rt: &impl Print, trefi: u32) {
     let fine = with_period(1071811, trefi);
-    show_pace(rt, ledger::first_pace(fine))?;
+    show_pace(rt, ledger::first_pace(fine));
     for mr4 in 1..=6u8 {
-        under(rt, fine, mr4)?;
+        under(rt, fine, mr4);
     }
-    Ok(())
 }
 
-fn stays(rt: &impl Print, card: Card, pace: Pace) -> io::Result<()> {
-    show(rt, ledger::moved(stands(0, 8, 0), pace, card, 1))?;
+fn stays(rt: &impl Print, card: Card, pace: Pace) {
+    show(rt, ledger::moved(stands(0, 8, 0), pace, card, 1));
     show(
         rt,
         ledger::entered(
@@ -44,44 +41,41 @@ fn stays(rt: &impl Print, card: Card, pace: Pace) -> io::Result<()> {
             1,
             effect(false, false, Move::Stays),
         ),
-    )?;
-    Ok(())
+    );
 }
 
-fn edge(rt: &impl Print, fs: u64, trefi: u32) -> io::Result<()> {
+fn edge(rt: &impl Print, fs: u64, trefi: u32) {
     let card = with_period(fs, trefi);
     stays(rt, card, ledger::first_pace(card))
 }
 
 // 13 whatever the upper half; the pace has one meaning all the same.
-fn odd(rt: &impl Print, fs: u64) -> io::Result<()> {
+fn odd(rt: &impl Print, fs: u64) {
     let card = with_period(fs, 20000000);
-    stays(rt, card, first())?;
-    show_pace(rt, ledger::first_pace(card))?;
+    stays(rt, card, first());
+    show_pace(rt, ledger::first_pace(card));
     show_pace(
         rt,
         ledger::respaced(lent_pace(18446744073709551615, 1), card, 4294967295, 1),
-    )?;
-    show_pace(rt, ledger::respaced(lent_pace(0, 6), card, 4294967295, 2))?;
-    Ok(())
+    );
+    show_pace(rt, ledger::respaced(lent_pace(0, 6), card, 4294967295, 2));
 }
 
-fn edges(rt: &impl Print) -> io::Result<()> {
+fn edges(rt: &impl Print) {
     for fs in [937999, 938000, 100000000, 100000001] {
-        edge(rt, fs, 3900000)?;
+        edge(rt, fs, 3900000);
     }
-    edge(rt, 1000500, 1000)?;
+    edge(rt, 1000500, 1000);
     for fs in [1000500, 1001000, 1001001] {
-        edge(rt, fs, 1001)?;
+        edge(rt, fs, 1001);
     }
-    Ok(())
 }
 
-pub fn all(rt: &impl Print) -> io::Result<()> {
+pub fn all(rt: &impl Print) {
     for trefi in [3900000, 1071811, 1071810] {
-        every_code(rt, trefi)?;
+        every_code(rt, trefi);
     }
-    edges(rt)?;
+    edges(rt);
     for fs in [
         1250,
         4296217296,
@@ -89,7 +83,6 @@ pub fn all(rt: &impl Print) -> io::Result<()> {
         9223372036856025808,
         18446744073709551615,
     ] {
-        odd(rt, fs)?;
+        odd(rt, fs);
     }
-    Ok(())
 }

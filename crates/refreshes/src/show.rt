@@ -1,7 +1,7 @@
-// A ledger moved on or taken through an entry's cycle, and its line.
+// A ledger moved on or taken through an entry's cycle, and its line. A write that fails is passed over.
 use ledger::{After, Effect, Ledger, Pace, Refusal};
 use pins::{Level, Move};
-use std::{fmt, io};
+use std::fmt;
 
 // What came back, a level by its place among the four.
 #[derive(Clone, Copy)]
@@ -71,12 +71,12 @@ pub fn refreshed(ledger: Ledger, stamp: u32) -> Ledger {
     ledger::entered(ledger, first(), card::bench(), stamp, effect).ledger
 }
 
-pub fn show(rt: &impl Print, after: After) -> io::Result<Ledger> {
-    println!(rt; "{}", Line(after))?;
-    Ok(after.ledger)
+pub fn show(rt: &impl Print, after: After) -> Ledger {
+    let _ = println!(rt; "{}", Line(after));
+    after.ledger
 }
 
-pub fn moves_at(rt: &impl Print, ledger: Ledger, pace: Pace, to: u32) -> io::Result<Ledger> {
+pub fn moves_at(rt: &impl Print, ledger: Ledger, pace: Pace, to: u32) -> Ledger {
     show(rt, ledger::moved(ledger, pace, card::bench(), to))
 }
 
@@ -86,33 +86,27 @@ pub fn enters_at(
     pace: Pace,
     stamp: u32,
     effect: Effect,
-) -> io::Result<Ledger> {
+) -> Ledger {
     show(
         rt,
         ledger::entered(ledger, pace, card::bench(), stamp, effect),
     )
 }
 
-pub fn moves(rt: &impl Print, ledger: Ledger, to: u32) -> io::Result<Ledger> {
+pub fn moves(rt: &impl Print, ledger: Ledger, to: u32) -> Ledger {
     moves_at(rt, ledger, first(), to)
 }
 
-pub fn enters(
-    rt: &impl Print,
-    ledger: Ledger,
-    stamp: u32,
-    counted: bool,
-    moved: Move,
-) -> io::Result<Ledger> {
+pub fn enters(rt: &impl Print, ledger: Ledger, stamp: u32, counted: bool, moved: Move) -> Ledger {
     enters_at(rt, ledger, first(), stamp, effect(counted, false, moved))
 }
 
 // A line of one number, and one of a pace.
-pub fn show_number(rt: &impl Print, n: u64) -> io::Result<()> {
-    println!(rt; "{n}")
+pub fn show_number(rt: &impl Print, n: u64) {
+    let _ = println!(rt; "{n}");
 }
 
-pub fn show_pace(rt: &impl Print, pace: Pace) -> io::Result<Pace> {
-    println!(rt; "{} {}", pace.next, pace.mr4)?;
-    Ok(pace)
+pub fn show_pace(rt: &impl Print, pace: Pace) -> Pace {
+    let _ = println!(rt; "{} {}", pace.next, pace.mr4);
+    pace
 }
