@@ -188,6 +188,10 @@ module _ (r : Record) (w : Whose) (c : Command) (v : Move) (t : ℕ) (g : Ledger
   pub changed : (s : Record) → s ≡ next → Changed r t w c v g z s
   changed s e = record { is = e ∙ next_is; lent = λ args. ap lent_of e ∙ next_lent args }
 
+-- a share that was taken as its own or not, where that is a fact to be shown
+pub share_by : (o own : Bool) (s : Share) (c : Command) (v : Move) (t : ℕ) (g : Ledger) (r : Share) → ShareChanged o s t c v g r → o ≡ own → ShareChanged own s t c v g r
+share_by o own s c v t g r h e = rw (← e) h
+
 module _ (r : Record) (w : Whose) (c : Command) (v : Move) (t : ℕ) (g : Ledgers) (z : Pace) (arrays : Whole r) (args : (p : ℕ) → is_of p w ≡ true → AfterArgs r p t c) where
   pub record_after_lem : lent_of (record_after r w c v t g z) ≡ after_command (lent_of r) w c v t (ledger_in g) (pace_of z)
   unfolding record_after

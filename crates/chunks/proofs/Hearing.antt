@@ -139,6 +139,11 @@ module _ {q : Bool} {st : State} {bs old : List ℕ} {used wrote : ℕ} {cur : S
     unfolding took_in refused_here verdict_at
     going_end e = stopped s.going (Over _) (only (stops_over s.room (rw (took_here, e))))
 
+    -- whatever is told, where that is this verdict: a fact to be shown of it
+    pub going_over : {x : Numbers} → t ≡ Err x → (w : What) → w ≡ Over (verdict_at cur.offset (refusal_in x)) →
+        FedAs (heard_of q (length old) st bs) old new (fed_of w used wrote cur)
+    going_over e w f = rw f (going_end e)
+
     module _ {o : Option Taken} {x : Taken} (is : t ≡ Ok o) (some : o ≡ Some x) where
       took_on : took_of cur (drop used bs) ≡ took_as (On x.size) x.state
       unfolding took_in

@@ -93,6 +93,13 @@ unfolding refusal_of unless_refused
 left_by o new g (Ok h) p = record { told = sym p.0; ledger = rw p.0 p.1 }
 left_by o new g (Err e) p = record { told = sym p; ledger = rw p refl }
 
+-- and so where what is handed back on a refusal is that ledger: a fact to be shown of it
+pub left_of : (o : Option checks.Refusal) (new : lent.Ledger) (g x : code.Ledger) (r : Result code.Ledger Refusal) → Checked o (λ h. ledger_of h ≡ new) r →
+    ((y : Refusal) → r ≡ Err y → x ≡ g) → Left o (ledger_of g) new (after_of x r)
+unfolding refusal_of unless_refused
+left_of o new g x (Ok h) p e = record { told = sym p.0; ledger = rw p.0 p.1 }
+left_of o new g x (Err y) p e = rw (e y refl) (left_by o new g (Err y) p)
+
 -- what 13 asks of a ledger, as the code finds it
 module _ (card : Card) (g : code.Ledger) where
   abbrev good : Bool

@@ -71,7 +71,7 @@ module _ (card : Card) (pace : Pace) (g : Ledger) where
       go false w = rw w
       go true w = absurd (some_none (rw w at e))
 
-  not_running : halted ≡ true → 0 ≡ deadline_of card pace g
+  pub not_running : halted ≡ true → 0 ≡ deadline_of card pace g
   unfolding deadline_of
   not_running h = rw h (go good)
     where
@@ -79,7 +79,7 @@ module _ (card : Card) (pace : Pace) (g : Ledger) where
       go false = refl
       go true = refl
 
-  running : good ≡ true → halted ≡ false → deadline_by b g ≡ deadline_of card pace g
+  pub running : good ≡ true → halted ≡ false → deadline_by b g ≡ deadline_of card pace g
   unfolding deadline_of
   running e h = rw (e, h)
 

@@ -100,6 +100,13 @@ pub digit_back : (i rest : ℕ) (out whole : List ℕ) → 0 < i → i ≤ lengt
 digit_back zero rest out whole h l n e = absurd (omega arith)
 digit_back (suc k) rest out whole h l n e = let p : suc k - 1 ≡ k = omega arith in rw p (digit_put k rest out whole (omega arith) n e)
 
+-- the first digit, which is all that the rest has
+pub digit_first : (rest : ℕ) (out whole : List ℕ) → 0 < length out → length (ahead 1 rest) ≡ 1 → ahead 1 rest ++ drop 1 out ≡ whole → (rest < 10) × (set out 0 (48 + rest) ≡ whole)
+digit_first rest out whole h n e =
+    ⊎_elim (λ (p : (rest < 10) × (ltb rest 10 ≡ true)). (p.0, let m : rest % 10 ≡ rest = omega arith in rw m at (digit_put 0 rest out whole h n e).1))
+    (λ (p : (10 ≤ rest) × (ltb rest 10 ≡ false)). absurd (omega (arith, one_more rest p.0, some_digit (rest / 10))))
+    (lt_cases rest 10)
+
 -- the last four digits, behind the others
 pub four_more : (x : ℕ) → 10000 ≤ x → decimal x ≡ decimal (x / 10000) ++ last_four x
 four_more x h =

@@ -75,7 +75,7 @@ unfolding read_as read_pins read_at on bits
 awake_plain p high false = refl
 awake_plain p high true = rw (eq-eqb (p / 4194304) 0 (omega arith), eq-eqb (p / 2097152 % 2) 1 (omega arith))
 
-quick_tail : (p : ℕ) → p / 1048576 ≡ 2 → IfSome (tail_at (key_on p)) (TailOn p)
+pub quick_tail : (p : ℕ) → p / 1048576 ≡ 2 → IfSome (tail_at (key_on p)) (TailOn p)
 quick_tail p high =
     go (tail_at (key_on p)) (rw (by_edge p (omega arith) (λ (o : p / 1048576 % 2 ≡ 1). absurd (omega arith))) (of_kind_lem (kind_at (p % 1024)) p (p / 1024 % 2) refl))
   where

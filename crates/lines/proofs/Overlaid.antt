@@ -8,11 +8,11 @@ use Rattle.lines.specs.Quick.{TailFits, tail_part}
 use Rattle.lines.specs.declared.tails.Tail.{Tail}
 
 -- the text in place of as many bytes
-abbrev placed : ℕ → List ℕ → List ℕ → List ℕ
+abbrev pub placed : ℕ → List ℕ → List ℕ → List ℕ
 placed at text old = take at old ++ text ++ drop (at + length text) old
 
 -- the text at a place, and the place behind it
-record Put (at : ℕ) (text old new : List ℕ) (r : ℕ) : Type 0 where
+pub record Put (at : ℕ) (text old new : List ℕ) (r : ℕ) : Type 0 where
   pub behind : r ≡ at + length text
   pub memory : new ≡ placed at text old
 
@@ -78,11 +78,11 @@ put_under at k a b old h n l =
     rw (front, behind, m) (simp append_assoc)
 
 -- ---- in these words
-put_size : {at : ℕ} {a old new : List ℕ} {r : ℕ} → at + length a ≤ length old → Put at a old new r → length new ≡ length old
+pub put_size : {at : ℕ} {a old new : List ℕ} {r : ℕ} → at + length a ≤ length old → Put at a old new r → length new ≡ length old
 put_size {at} {a} {old} h x = rw (x.memory, length-append, length_front at a old (omega arith), length-drop) (omega arith)
 
 -- the second over the end of the first
-over : {at : ℕ} {a b old mid new : List ℕ} {p r : ℕ} (k : ℕ) → at ≤ length old → k ≤ length a → length a ≤ k + length b
+pub over : {at : ℕ} {a b old mid new : List ℕ} {p r : ℕ} (k : ℕ) → at ≤ length old → k ≤ length a → length a ≤ k + length b
     → Put at a old mid p → Put (at + k) b mid new r → Put at (take k a ++ b) old new r
 over {at} {a} {b} {old} {mid} k h n l x y =
     let s = length-take-le k a n in
@@ -102,17 +102,17 @@ over {at} {a} {b} {old} {mid} k h n l x y =
     }
 
 -- the second before the end of the first
-under : {at : ℕ} {a b old mid new : List ℕ} {p r : ℕ} (k : ℕ) → at + k ≤ length old → k ≤ length a → length a ≤ k + length b
+pub under : {at : ℕ} {a b old mid new : List ℕ} {p r : ℕ} (k : ℕ) → at + k ≤ length old → k ≤ length a → length a ≤ k + length b
     → Put (at + k) b old mid p → Put at a mid new r → Put at (a ++ drop (length a - k) b) old new p
 under {at} {a} {b} {old} k h n l x y = record {
   behind = x.behind ∙ rw (length-append, length-drop) (omega arith);
   memory = y.memory ∙ rw x.memory (put_under at k a b old h n l);
 }
 
-within : {at i : ℕ} {a old new : List ℕ} {r : ℕ} (b : ℕ) → at ≤ length old → i < length a → Put at a old new r → Put at (set a i b) old (set new (at + i) b) r
+pub within : {at i : ℕ} {a old new : List ℕ} {r : ℕ} (b : ℕ) → at ≤ length old → i < length a → Put at a old new r → Put at (set a i b) old (set new (at + i) b) r
 within {at} {i} {a} {old} b h l x = record { behind = x.behind ∙ rw length-set; memory = rw x.memory (put_within at i b a old h l) }
 
-lined : {text old new : List ℕ} {r : ℕ} → length new ≡ length old → Put 0 text old new r → Lined text old new r
+pub lined : {text old new : List ℕ} {r : ℕ} → length new ≡ length old → Put 0 text old new r → Lined text old new r
 lined {text} {old} {new} {r} e x =
     let n = x.behind in
     let m : length new ≡ length text + (length old - length text) = ap length x.memory ∙ rw (length-append, length-drop, zero-add) in
@@ -142,7 +142,7 @@ tail_put four t mark {at} {q} {r} {old} {mid} room four_long fits a b =
     let both = under k (omega arith) (omega arith) (rw length-set (omega arith)) (within {i = 6} mark (omega arith) (omega arith) there) (rw mark_at at b) in
     (rw j at both, omega arith)
 
-quick_put : {base : ℕ} (text : List ℕ) (size : ℕ) (four : List ℕ) (t : Tail) (mark : ℕ) {at p q r : ℕ} {old m n new : List ℕ}
+pub quick_put : {base : ℕ} (text : List ℕ) (size : ℕ) (four : List ℕ) (t : Tail) (mark : ℕ) {at p q r : ℕ} {old m n new : List ℕ}
     → at + 64 ≤ length old → LeadGood base text size → length four ≡ 4 → TailFits t
     → Put at text old m p → Put (at + size + t.size - 4) t.text m n q → Put (at + size) four (set n (q - 2) mark) new r
     → Put at (take size text ++ four ++ tail_part t mark) old new q × (q ≤ at + 24)

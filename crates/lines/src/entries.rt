@@ -6,7 +6,7 @@ ghost use Rattle.lines.specs.Names.{shown_bank};
 ghost use Rattle.lines.specs.Parts.{name_part, bank_part};
 ghost use Rattle.lines.specs.Written.{Lined};
 
-use crate::names::{bank_of, name_of};
+use crate::names::{bank_of, put_name};
 use crate::numbers::{put_next, put_number};
 use crate::text::put_text;
 use pins::{Command, Whose};
@@ -19,7 +19,7 @@ fn put_bank(out: &mut [u8], bank: Option<u8>) -> usize
 {
     match bank {
         Some(bank) => put_next(out, u64::from(bank)),
-        None => put_text(out, b" -"),
+        None => put_text(out, *b" -"),
     }
 }
 
@@ -29,7 +29,7 @@ fn put_command(out: &mut [u8], command: Command, counter: u8) -> usize
     ensures memory { Lined (name_part (command_of command) ++ bank_part (command_of command) counter) out.old out.new result }
     ensures small { result ≤ 10 }
 {
-    let named = put_text(out, name_of(command));
+    let named = put_name(out, command);
     named + put_bank(&mut out[named..], bank_of(command, counter))
 }
 
@@ -42,9 +42,9 @@ fn put_part(out: &mut [u8], whose: Whose) -> usize
 {
     match whose {
         Whose::Sole | Whose::Both => 0,
-        Whose::First => put_text(out, b" 0"),
-        Whose::Second => put_text(out, b" 1"),
-        Whose::Neither => put_text(out, b" -"),
+        Whose::First => put_text(out, *b" 0"),
+        Whose::Second => put_text(out, *b" 1"),
+        Whose::Neither => put_text(out, *b" -"),
     }
 }
 
@@ -57,5 +57,5 @@ pub fn put_line(out: &mut [u8], stamp: u32, command: Command, whose: Whose, coun
     let mut at = put_number(out, u64::from(stamp));
     at += put_command(&mut out[at..], command, counter);
     at += put_part(&mut out[at..], whose);
-    at + put_text(&mut out[at..], b"\n")
+    at + put_text(&mut out[at..], *b"\n")
 }

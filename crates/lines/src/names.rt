@@ -3,28 +3,31 @@ ghost use Rattle.std.specs.Prelude.{◌≡◌, ◌≤◌, length};
 ghost use Rattle.pins.specs.Values.{command_of};
 ghost use Rattle.lines.specs.Names.{shown_bank};
 ghost use Rattle.lines.specs.Parts.{name_part, bank_part};
+ghost use Rattle.lines.specs.Written.{Lined};
 
+use crate::text::put_text;
 use pins::Command;
 
 // The name behind a blank.
 #[tactic(auto, unfolding(rules::specs::Lines::name_of, rules::specs::Commands::ap_of, rules::specs::Commands::carries, rules::specs::Commands::bare, rules::specs::Commands::kind_of, pins::specs::Values::command_of))]
-pub fn name_of(command: Command) -> &'static [u8]
-    ensures name { result.now ≡ name_part (command_of command) }
-    ensures small { length result.now ≤ 6 }
+pub fn put_name(out: &mut [u8], command: Command) -> usize
+    requires { 6 ≤ length out.old }
+    ensures memory { Lined (name_part (command_of command)) out.old out.new result }
+    ensures small { result ≤ 6 }
 {
     match command {
-        Command::Nop => b" NOP",
-        Command::Mrw { .. } => b" MRW",
-        Command::Mrr { .. } => b" MRR",
-        Command::Refpb => b" REFPB",
-        Command::Refab => b" REFAB",
-        Command::Act { .. } => b" ACT",
-        Command::Rd { ap: true, .. } => b" RDA",
-        Command::Rd { ap: false, .. } => b" RD",
-        Command::Wr { ap: true, .. } => b" WRA",
-        Command::Wr { ap: false, .. } => b" WR",
-        Command::Pre { .. } => b" PRE",
-        Command::Prea => b" PREA",
+        Command::Nop => put_text(out, *b" NOP"),
+        Command::Mrw { .. } => put_text(out, *b" MRW"),
+        Command::Mrr { .. } => put_text(out, *b" MRR"),
+        Command::Refpb => put_text(out, *b" REFPB"),
+        Command::Refab => put_text(out, *b" REFAB"),
+        Command::Act { .. } => put_text(out, *b" ACT"),
+        Command::Rd { ap: true, .. } => put_text(out, *b" RDA"),
+        Command::Rd { ap: false, .. } => put_text(out, *b" RD"),
+        Command::Wr { ap: true, .. } => put_text(out, *b" WRA"),
+        Command::Wr { ap: false, .. } => put_text(out, *b" WR"),
+        Command::Pre { .. } => put_text(out, *b" PRE"),
+        Command::Prea => put_text(out, *b" PREA"),
     }
 }
 

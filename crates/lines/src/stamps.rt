@@ -28,12 +28,10 @@ impl Lead {
     }
 
     // That of this stamp, where it has one and its ten thousand numbers are all below 2^32. Most often it is the same.
-    pub fn renewed(self, stamp: u32) -> Lead {
+    pub fn renew(&mut self, stamp: u32) {
         let number = stamp / 10000;
-        if 10000 * number == self.base || number == 0 || 429496 <= number {
-            self
-        } else {
-            Lead::of(number)
+        if 10000 * number != self.base && 1 <= number && number < 429496 {
+            *self = Lead::of(number);
         }
     }
 }

@@ -19,7 +19,7 @@ fn put_owed(out: &mut [u8], owed: u8) -> usize
     if 8 <= owed {
         return put_next(out, u64::from(owed - 8));
     }
-    let sign = put_text(out, b" -");
+    let sign = put_text(out, *b" -");
     sign + put_number(&mut out[sign..], u64::from(8 - owed))
 }
 
@@ -48,11 +48,11 @@ pub fn accepted_line(out: &mut [u8], commands: u64, refreshes: u64, owed: Owed) 
     if out.len() < 64 {
         return 0;
     }
-    let mut at = put_text(out, b"accepted ");
+    let mut at = put_text(out, *b"accepted ");
     at += put_number(&mut out[at..], commands);
     at += put_next(&mut out[at..], refreshes);
     at += put_ledgers(&mut out[at..], owed);
-    at + put_text(&mut out[at..], b"\n")
+    at + put_text(&mut out[at..], *b"\n")
 }
 
 // The line of a file that is refused; 0 for want of room as there (`Written`).
@@ -63,10 +63,10 @@ pub fn refused_line(out: &mut [u8], number: u8, rule: u8, offset: u64, cycle: u6
     if out.len() < 64 {
         return 0;
     }
-    let mut at = put_text(out, b"refused ");
+    let mut at = put_text(out, *b"refused ");
     at += put_number(&mut out[at..], u64::from(number));
     at += put_next(&mut out[at..], u64::from(rule));
     at += put_next(&mut out[at..], offset);
     at += put_next(&mut out[at..], cycle);
-    at + put_text(&mut out[at..], b"\n")
+    at + put_text(&mut out[at..], *b"\n")
 }

@@ -46,7 +46,7 @@ fn stays(rt: &impl Print, card: Card, pace: Pace) {
 
 fn edge(rt: &impl Print, fs: u64, trefi: u32) {
     let card = with_period(fs, trefi);
-    stays(rt, card, ledger::first_pace(card))
+    stays(rt, card, ledger::first_pace(card));
 }
 
 // 13 whatever the upper half; the pace has one meaning all the same.

@@ -1,10 +1,11 @@
 -- Each share by its own promise.
 use mathlib.Core.Path.{refl}
-use Rattle.bank.proofs.Changed.{changed}
+use native.Mathlib.Omega.{arith}
+use Rattle.bank.proofs.Changed.{changed, share_by}
 use Rattle.bank.proofs.taking.after.Goals as goal
 
 pub returns : goal.returns
 returns c =
     changed _ _ _ _ _ _ _ c.share_taken.result c.share_taken-2.result
-    (rw (← c.is_first-of_first.ensures) c.share_taken.ensures) (rw (← c.is_second-of_second.ensures) c.share_taken-2.ensures) _
+    (share_by _ _ _ _ _ _ _ _ c.share_taken.ensures (first_of (cc, grind arith))) (share_by _ _ _ _ _ _ _ _ c.share_taken-2.ensures (first_of (cc, grind arith))) _
     (rw c.once_at.ensures refl)

@@ -1,6 +1,6 @@
 -- What was heard so far, and what is heard from here, is kept from turn to turn.
 use Rattle.std.proofs.Common.{sym, ◌∙◌, arith}
-use Rattle.chunks.proofs.Hearing.{going, going_full, leap_size, going_leap, none_asked, stands, going_wait, going_end, size_here, going_on}
+use Rattle.chunks.proofs.Hearing.{going, going_full, leap_size, going_leap, none_asked, stands, going_wait, going_over, size_here, going_on}
 use Rattle.chunks.proofs.feeding.feed.Goals as goal
 
 pub loop-state-init : goal.loop-state-init
@@ -56,4 +56,4 @@ returns-in-Ok-None c =
 pub returns-in-Err : goal.returns-in-Err
 returns-in-Err c =
     let h = stands c.loop-state.invariant c.leap.ensures c.in_default.not-Some (sym c.has_room.ensures ∙ c.if-not-has_room.false) in
-    rw c.at.ensures (going_end h _ c.take_field.ensures c.in-Err.is)
+    going_over h _ c.take_field.ensures c.in-Err.is _ (cc)

@@ -1,5 +1,6 @@
-use Rattle.ledger.proofs.Admission.{left_by}
+use native.Mathlib.Omega.{arith}
+use Rattle.ledger.proofs.Admission.{left_of}
 use Rattle.ledger.proofs.calls.entered.Goals as goal
 
 pub returns : goal.returns
-returns c = rw c.told.ensures (left_by _ _ _ _ c.try_enter.ensures)
+returns c = rw c.told.ensures (left_of _ _ _ _ _ c.try_enter.ensures (λ y refused. grind arith))
